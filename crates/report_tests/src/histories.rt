@@ -1,15 +1,15 @@
-//! Histories written out by hand, as constants, and the values that they stand for. Each maker ends
-//! the test where there is no memory.
+//! Histories written out by hand, and the lists that they are made of. Each maker ends the test
+//! where there is no memory.
 ghost use Rattle.std.specs.Prelude.{◌≤◌, length};
 ghost use Rattle.report.specs.Made.{AreLinesOf};
 
-use history::{Arrival, History, LaneList, Lines, Sent, SockWrite};
+use history::{Arrival, Commanded, History, LaneList, Lines, Sent, SockWrite};
 use history_check::is_regular;
 use std::alloc::Global;
 use std::process::Abort;
 use steer_base::{
-    Choice, Chosen, Cpu, DropCause, Flow, LaneDrop, List, Packet, PacketId, Pair, Proto, RxQueue,
-    Why,
+    Answer, Choice, Chosen, Command, Cpu, CpuMask, DropCause, Flow, LaneDrop, List, Packet,
+    PacketId, Pair, Proto, RxQueue, Why,
 };
 
 // A TCP segment from 66.9.149.187:2794 to 161.142.100.80:1766, with its published hash.
@@ -28,6 +28,22 @@ pub(crate) const SEGMENT: Packet = Packet {
     flow_number: 0,
 };
 
+// One from 199.92.111.2:14230 to 65.69.140.83:4739.
+pub(crate) const OTHER_SEGMENT: Packet = Packet {
+    flow: Flow::Four(
+        Pair::V4 {
+            src: 0xc75c_6f02,
+            dst: 0x4145_8c53,
+        },
+        Proto::Tcp,
+        14230,
+        4739,
+    ),
+    hash: Some(0xc626_b0ea),
+    len: 54,
+    flow_number: 1,
+};
+
 // Processor 1, without a class.
 pub(crate) const PLAIN: Choice = Choice {
     class: None,
@@ -38,423 +54,383 @@ pub(crate) const PLAIN: Choice = Choice {
     why: Why::Plain,
 };
 
-/// An item of a list that is written out as a row of plain numbers, which a constant may borrow.
-pub(crate) trait Item<R> {
-    fn of(row: R) -> Self;
-}
-
-impl Item<u32> for u32 {
-    fn of(row: u32) -> u32 {
-        row
-    }
-}
-
-impl Item<u32> for PacketId {
-    fn of(row: u32) -> PacketId {
-        PacketId(row)
-    }
-}
-
-/// The packet, its queue, and the queues that a filter and an entry named.
-pub(crate) type ArrivalRow = (u32, u8, Option<u8>, Option<u8>);
-
-impl Item<ArrivalRow> for Arrival {
-    fn of(row: ArrivalRow) -> Arrival {
-        let (id, queue, filter, entry) = row;
-        Arrival {
-            id: PacketId(id),
-            queue: RxQueue(queue),
-            filter: queue_of(filter),
-            entry: queue_of(entry),
-        }
-    }
-}
-
-fn queue_of(queue: Option<u8>) -> Option<RxQueue> {
-    match queue {
-        Some(queue) => Some(RxQueue(queue)),
-        None => None,
-    }
-}
-
-/// The packet and its choice.
-pub(crate) type ChosenRow = (u32, Choice);
-
-impl Item<ChosenRow> for Chosen {
-    fn of(row: ChosenRow) -> Chosen {
-        let (id, choice) = row;
-        Chosen {
-            id: PacketId(id),
-            choice,
-        }
-    }
-}
-
-/// The packet, and what had been offered, pulled and why.
-pub(crate) type DropRow = (u32, u32, u32, DropCause);
-
-impl Item<DropRow> for LaneDrop {
-    fn of(row: DropRow) -> LaneDrop {
-        let (id, accepted, pulled, cause) = row;
-        LaneDrop {
-            id: PacketId(id),
-            accepted,
-            pulled,
-            cause,
-        }
-    }
-}
-
-/// The packet, its receive queue and the processor of the application.
-pub(crate) type SentRow = (u32, u8, u8);
-
-impl Item<SentRow> for Sent {
-    fn of(row: SentRow) -> Sent {
-        let (id, rxq, cpu) = row;
-        Sent {
-            id: PacketId(id),
-            rxq: RxQueue(rxq),
-            cpu: Cpu(cpu),
-        }
-    }
-}
-
-/// The entry and the processor.
-pub(crate) type WriteRow = (u32, u8);
-
-impl Item<WriteRow> for SockWrite {
-    fn of(row: WriteRow) -> SockWrite {
-        let (entry, cpu) = row;
-        SockWrite {
-            entry,
-            cpu: Cpu(cpu),
-        }
-    }
-}
-
-/// A lane in a history that is written out.
-#[derive(Clone, Copy)]
-pub(crate) struct WrittenLane {
-    pub(crate) accepted: &'static [u32],
-    pub(crate) drops: &'static [DropRow],
-    /// How many packets were pulled, delivered and retired.
-    pub(crate) counts: (u32, u32, u32),
-}
-
-/// A history that is written out, but for its commands: its fields, with rows in place of the items
-/// of their lists.
-#[derive(Clone, Copy)]
-pub(crate) struct Written {
-    pub(crate) total: u32,
-    pub(crate) cut: Option<u32>,
-    pub(crate) arrivals: &'static [ArrivalRow],
-    pub(crate) taken: &'static [u32],
-    pub(crate) choices: &'static [&'static [ChosenRow]],
-    pub(crate) lanes: &'static [WrittenLane],
-    pub(crate) inboxes: &'static [&'static [u32]],
-    pub(crate) sent: &'static [&'static [SentRow]],
-    pub(crate) tx_choices: &'static [&'static [ChosenRow]],
-    pub(crate) tx_lanes: &'static [WrittenLane],
-    pub(crate) port: &'static [u32],
-    pub(crate) writes: &'static [&'static [WriteRow]],
-    pub(crate) start: u32,
-}
-
-/// The history that is written out, without commands.
-pub(crate) fn history_of(rt: &impl Abort, alloc: Global, written: &Written) -> History {
-    History {
-        total: written.total,
-        cut: written.cut,
-        arrivals: items(rt, alloc, written.arrivals),
-        taken: items(rt, alloc, written.taken),
-        choices: lists(rt, alloc, written.choices),
-        lanes: lanes(rt, alloc, written.lanes),
-        inboxes: lists(rt, alloc, written.inboxes),
-        sent: lists(rt, alloc, written.sent),
-        tx_choices: lists(rt, alloc, written.tx_choices),
-        tx_lanes: lanes(rt, alloc, written.tx_lanes),
-        port: items(rt, alloc, written.port),
-        writes: lists(rt, alloc, written.writes),
-        commands: none(alloc),
-        start: written.start,
-    }
-}
-
 pub(crate) fn none<T>(alloc: Global) -> List<T> {
     List::from_vec(Vec::new(alloc))
+}
+
+// A list of one.
+pub(crate) fn one<T: Drop>(rt: &impl Abort, alloc: Global, item: T) -> List<T> {
+    let mut items = Vec::new(alloc);
+    items.push(item).expect(rt, "memory");
+    List::from_vec(items)
+}
+
+pub(crate) fn two<T: Drop>(rt: &impl Abort, alloc: Global, first: T, second: T) -> List<T> {
+    let mut items = Vec::new(alloc);
+    items.push(first).expect(rt, "memory");
+    items.push(second).expect(rt, "memory");
+    List::from_vec(items)
 }
 
 pub(crate) fn list<T: Copy>(rt: &impl Abort, alloc: Global, items: &[T]) -> List<T> {
     List::from_vec(Vec::from_slice(alloc, items).expect(rt, "memory"))
 }
 
-fn items<T: Item<R> + Drop, R: Copy>(rt: &impl Abort, alloc: Global, rows: &[R]) -> List<T> {
-    let mut items = Vec::new(alloc);
-    for row in rows {
-        items.push(T::of(*row)).expect(rt, "memory");
+// The packets of these numbers.
+pub(crate) fn ids(rt: &impl Abort, alloc: Global, numbers: &[u32]) -> List<PacketId> {
+    let mut packets = Vec::new(alloc);
+    for number in numbers {
+        packets.push(PacketId(*number)).expect(rt, "memory");
     }
-    List::from_vec(items)
+    List::from_vec(packets)
 }
 
-fn lists<T: Item<R> + Drop, R: Copy>(
-    rt: &impl Abort,
-    alloc: Global,
-    lists: &[&[R]],
-) -> List<List<T>> {
-    let mut all = Vec::new(alloc);
-    for rows in lists {
-        all.push(items(rt, alloc, rows)).expect(rt, "memory");
-    }
-    List::from_vec(all)
-}
-
-fn lanes(rt: &impl Abort, alloc: Global, rows: &[WrittenLane]) -> List<LaneList> {
-    let mut items = Vec::new(alloc);
-    for row in rows {
-        items.push(lane(rt, alloc, row)).expect(rt, "memory");
-    }
-    List::from_vec(items)
-}
-
-fn lane(rt: &impl Abort, alloc: Global, written: &WrittenLane) -> LaneList {
-    let (pulled, delivered, retired) = written.counts;
+// A lane whose first packets were retired.
+pub(crate) fn lane(rt: &impl Abort, alloc: Global, accepted: &[u32], retired: u32) -> LaneList {
     LaneList {
-        accepted: items(rt, alloc, written.accepted),
-        drops: items(rt, alloc, written.drops),
-        pulled,
-        delivered,
+        accepted: ids(rt, alloc, accepted),
+        drops: none(alloc),
+        pulled: retired,
+        delivered: retired,
         retired,
     }
 }
 
-/// A lane without packets.
-pub(crate) const EMPTY: WrittenLane = WrittenLane {
-    accepted: &[],
-    drops: &[],
-    counts: (0, 0, 0),
-};
-
-// A choice with class 0.
-macro_rules! classed {
-    ($want:expr, $head:expr, $tail:expr, $lane:expr, $why:ident) => {
-        Choice {
-            class: Some(0),
-            want: $want,
-            head: $head,
-            tail: Some($tail),
-            lane: $lane,
-            why: Why::$why,
-        }
-    };
+// The lanes of so many processors, of which only 1 and 2 have packets.
+pub(crate) fn lanes(
+    rt: &impl Abort,
+    alloc: Global,
+    cpus: u32,
+    second: LaneList,
+    third: LaneList,
+) -> List<LaneList> {
+    let mut lanes = Vec::new(alloc);
+    lanes.push(lane(rt, alloc, &[], 0)).expect(rt, "memory");
+    lanes.push(second).expect(rt, "memory");
+    lanes.push(third).expect(rt, "memory");
+    for _ in 3..cpus {
+        lanes.push(lane(rt, alloc, &[], 0)).expect(rt, "memory");
+    }
+    List::from_vec(lanes)
 }
 
-pub(crate) use classed;
+// The arrivals of packets 0, 1 and so on at these queues, by the redirection table.
+pub(crate) fn arrivals(rt: &impl Abort, alloc: Global, queues: &[u8]) -> List<Arrival> {
+    let mut arrivals = Vec::new(alloc);
+    for (queue, id) in queues.iter().zip(0u32..) {
+        let arrival = Arrival {
+            id: PacketId(id),
+            queue: RxQueue(*queue),
+            filter: None,
+            entry: Some(RxQueue(*queue)),
+        };
+        arrivals.push(arrival).expect(rt, "memory");
+    }
+    List::from_vec(arrivals)
+}
 
-/// One application that has nothing, and one transmit queue.
-pub(crate) const NOTHING: Written = Written {
-    total: 0,
-    cut: None,
-    arrivals: &[],
-    taken: &[0],
-    choices: &[&[]],
-    lanes: &[EMPTY],
-    inboxes: &[&[]],
-    sent: &[&[]],
-    tx_choices: &[&[]],
-    tx_lanes: &[EMPTY],
-    port: &[],
-    writes: &[&[]],
-    start: 0,
-};
+// The first choice is for packet 0, the next for packet 1 and so on.
+pub(crate) fn chosen(rt: &impl Abort, alloc: Global, choices: &[Choice]) -> List<Chosen> {
+    let mut list = Vec::new(alloc);
+    for (choice, id) in choices.iter().zip(0u32..) {
+        let chosen = Chosen {
+            id: PacketId(id),
+            choice: *choice,
+        };
+        list.push(chosen).expect(rt, "memory");
+    }
+    List::from_vec(list)
+}
 
-/// Four packets of one flow, whose application stands on processor 2. Processor 1 keeps the flow
-/// until it has retired three of them, and then the fourth moves.
-pub(crate) const MOVED: Written = Written {
-    total: 4,
-    arrivals: &[
-        (0, 0, None, Some(0)),
-        (1, 0, None, Some(0)),
-        (2, 0, None, Some(0)),
-        (3, 0, None, Some(0)),
-    ],
-    taken: &[4],
-    choices: &[&[
-        (0, classed!(None, None, 0, 1, Unset)),
-        (1, classed!(Some(2), Some(0), 1, 1, Kept)),
-        (2, classed!(Some(2), Some(0), 2, 1, Kept)),
-        (3, classed!(Some(2), Some(3), 3, 2, Passed)),
-    ]],
-    lanes: &[
-        EMPTY,
-        WrittenLane {
-            accepted: &[0, 1, 2],
-            drops: &[],
-            counts: (3, 3, 3),
+// The packets that arrived at these queues were taken from the one queue as many as there are, and
+// were weighed. The one application has not replied.
+pub(crate) fn received(
+    rt: &impl Abort,
+    alloc: Global,
+    queues: &[u8],
+    choices: &[Choice],
+    lanes: List<LaneList>,
+    inbox: &[u32],
+) -> History {
+    let count = u32::try_from(queues.len()).expect(rt, "few packets");
+    History {
+        total: count,
+        cut: None,
+        arrivals: arrivals(rt, alloc, queues),
+        taken: one(rt, alloc, count),
+        choices: one(rt, alloc, chosen(rt, alloc, choices)),
+        lanes,
+        inboxes: one(rt, alloc, ids(rt, alloc, inbox)),
+        sent: one(rt, alloc, none(alloc)),
+        tx_choices: one(rt, alloc, none(alloc)),
+        tx_lanes: one(rt, alloc, lane(rt, alloc, &[], 0)),
+        port: none(alloc),
+        writes: one(rt, alloc, none(alloc)),
+        commands: none(alloc),
+        start: 0,
+    }
+}
+
+// A choice with class 0.
+pub(crate) fn classed(
+    want: Option<u8>,
+    head: Option<u32>,
+    tail: u32,
+    lane: u8,
+    why: Why,
+) -> Choice {
+    Choice {
+        class: Some(0),
+        want,
+        head,
+        tail: Some(tail),
+        lane,
+        why,
+    }
+}
+
+// Four packets of one flow, whose application stands on processor 2. Processor 1 keeps the flow
+// until it has retired three of them, and then the fourth moves. The counters begin at `start`.
+pub(crate) fn moved(rt: &impl Abort, alloc: Global, start: u32) -> History {
+    let third = start.wrapping_add(3);
+    let choices = [
+        classed(None, None, start, 1, Why::Unset),
+        classed(Some(2), Some(start), start.wrapping_add(1), 1, Why::Kept),
+        classed(Some(2), Some(start), start.wrapping_add(2), 1, Why::Kept),
+        classed(Some(2), Some(third), third, 2, Why::Passed),
+    ];
+    let lanes = lanes(
+        rt,
+        alloc,
+        4,
+        lane(rt, alloc, &[0, 1, 2], 3),
+        lane(rt, alloc, &[3], 0),
+    );
+    let mut h = received(rt, alloc, &[0; 4], &choices, lanes, &[0, 1, 2]);
+    let write = SockWrite {
+        entry: 0,
+        cpu: Cpu(2),
+    };
+    h.writes = one(rt, alloc, one(rt, alloc, write));
+    h.start = start;
+    h
+}
+
+// Three packets for a backlog of one: the second is dropped, the first pulled, and the third waits.
+pub(crate) fn full(rt: &impl Abort, alloc: Global) -> History {
+    let fallen = LaneDrop {
+        id: PacketId(1),
+        accepted: 1,
+        pulled: 0,
+        cause: DropCause::Full,
+    };
+    let second = LaneList {
+        accepted: ids(rt, alloc, &[0, 2]),
+        drops: one(rt, alloc, fallen),
+        pulled: 1,
+        delivered: 0,
+        retired: 0,
+    };
+    let lanes = lanes(rt, alloc, 4, second, lane(rt, alloc, &[], 0));
+    received(rt, alloc, &[0; 3], &[PLAIN; 3], lanes, &[])
+}
+
+// One packet steered without a flow table, and delivered.
+pub(crate) fn delivered(rt: &impl Abort, alloc: Global, cpus: u32) -> History {
+    let lanes = lanes(
+        rt,
+        alloc,
+        cpus,
+        lane(rt, alloc, &[0], 1),
+        lane(rt, alloc, &[], 0),
+    );
+    received(rt, alloc, &[0; 1], &[PLAIN], lanes, &[0])
+}
+
+// The same with three processors, replied to and sent.
+pub(crate) fn replied(rt: &impl Abort, alloc: Global, start: u32) -> History {
+    let mut h = delivered(rt, alloc, 3);
+    let sent = Sent {
+        id: PacketId(0),
+        rxq: RxQueue(0),
+        cpu: Cpu(2),
+    };
+    h.sent = one(rt, alloc, one(rt, alloc, sent));
+    let first = classed(Some(0), None, start, 0, Why::Unset);
+    h.tx_choices = one(rt, alloc, chosen(rt, alloc, &[first]));
+    h.tx_lanes = one(rt, alloc, lane(rt, alloc, &[0], 1));
+    h.port = ids(rt, alloc, &[0]);
+    h.start = start;
+    h
+}
+
+// The lane of processor 1 under the flow limit: 151 packets of a flow were accepted, the next 49
+// dropped, and one of another flow accepted.
+fn limited_lane(rt: &impl Abort, alloc: Global) -> LaneList {
+    let mut accepted = Vec::new(alloc);
+    let mut drops = Vec::new(alloc);
+    for id in 0..200 {
+        if id < 151 {
+            accepted.push(PacketId(id)).expect(rt, "memory");
+        } else {
+            let fallen = LaneDrop {
+                id: PacketId(id),
+                accepted: 151,
+                pulled: 0,
+                cause: DropCause::Flow(id + 1),
+            };
+            drops.push(fallen).expect(rt, "memory");
+        }
+    }
+    accepted.push(PacketId(200)).expect(rt, "memory");
+    LaneList {
+        accepted: List::from_vec(accepted),
+        drops: List::from_vec(drops),
+        pulled: 0,
+        delivered: 0,
+        retired: 0,
+    }
+}
+
+// 200 packets of one flow and one of another, with that lane.
+pub(crate) fn limited(rt: &impl Abort, alloc: Global) -> History {
+    let lanes = lanes(
+        rt,
+        alloc,
+        4,
+        limited_lane(rt, alloc),
+        lane(rt, alloc, &[], 0),
+    );
+    received(rt, alloc, &[0; 201], &[PLAIN; 201], lanes, &[])
+}
+
+// Two packets of three wait in the ring. The capture has a cut.
+pub(crate) fn waiting(rt: &impl Abort, alloc: Global) -> History {
+    let lanes = two(rt, alloc, lane(rt, alloc, &[], 0), lane(rt, alloc, &[], 0));
+    let mut h = received(rt, alloc, &[0; 2], &[], lanes, &[]);
+    h.total = 3;
+    h.cut = Some(9);
+    h.taken = one(rt, alloc, 0);
+    let write = SockWrite {
+        entry: 3,
+        cpu: Cpu(1),
+    };
+    h.writes = one(rt, alloc, one(rt, alloc, write));
+    let command = Commanded {
+        command: Command::Mask(RxQueue(0), CpuMask(2)),
+        answer: Answer::Done,
+    };
+    h.commands = one(rt, alloc, command);
+    h
+}
+
+// Packets of two queues: one without a hash, two that a filter sent to queue 1, one that left an
+// offline processor, and one in the hand of its poller.
+pub(crate) fn filtered(rt: &impl Abort, alloc: Global) -> History {
+    let lanes = two(
+        rt,
+        alloc,
+        lane(rt, alloc, &[0, 3], 0),
+        lane(rt, alloc, &[1, 2], 1),
+    );
+    let mut h = received(rt, alloc, &[0, 1, 1, 1, 0], &[], lanes, &[1]);
+    let plain = Arrival {
+        id: PacketId(0),
+        queue: RxQueue(0),
+        filter: None,
+        entry: None,
+    };
+    let by_filter = Arrival {
+        id: PacketId(1),
+        queue: RxQueue(1),
+        filter: Some(RxQueue(1)),
+        ..plain
+    };
+    let by_entry = Arrival {
+        id: PacketId(3),
+        queue: RxQueue(1),
+        entry: Some(RxQueue(1)),
+        ..plain
+    };
+    let arrivals = [
+        plain,
+        by_filter,
+        Arrival {
+            id: PacketId(2),
+            ..by_filter
         },
-        WrittenLane {
-            accepted: &[3],
-            drops: &[],
-            counts: (0, 0, 0),
+        by_entry,
+        Arrival {
+            id: PacketId(4),
+            queue: RxQueue(0),
+            ..by_entry
         },
-        EMPTY,
-    ],
-    inboxes: &[&[0, 1, 2]],
-    writes: &[&[(0, 2)]],
-    ..NOTHING
-};
-
-/// The same where the counters begin two below the end of their range.
-pub(crate) const MOVED_WRAPPED: Written = Written {
-    choices: &[&[
-        (0, classed!(None, None, 4294967294, 1, Unset)),
-        (1, classed!(Some(2), Some(4294967294), 4294967295, 1, Kept)),
-        (2, classed!(Some(2), Some(4294967294), 0, 1, Kept)),
-        (3, classed!(Some(2), Some(1), 1, 2, Passed)),
-    ]],
-    start: 4294967294,
-    ..MOVED
-};
-
-/// Three packets for a backlog of one: the second is dropped, the first pulled, and the third
-/// waits.
-pub(crate) const FULL: Written = Written {
-    total: 3,
-    arrivals: &[
-        (0, 0, None, Some(0)),
-        (1, 0, None, Some(0)),
-        (2, 0, None, Some(0)),
-    ],
-    taken: &[3],
-    choices: &[&[(0, PLAIN), (1, PLAIN), (2, PLAIN)]],
-    lanes: &[
-        EMPTY,
-        WrittenLane {
-            accepted: &[0, 2],
-            drops: &[(1, 1, 0, DropCause::Full)],
-            counts: (1, 0, 0),
+    ];
+    h.arrivals = list(rt, alloc, &arrivals);
+    h.taken = list(rt, alloc, &[2, 3]);
+    let first = Chosen {
+        id: PacketId(0),
+        choice: Choice { lane: 0, ..PLAIN },
+    };
+    let others = [
+        Chosen {
+            id: PacketId(1),
+            choice: classed(Some(1), None, 0, 1, Why::Unset),
         },
-        EMPTY,
-        EMPTY,
-    ],
-    ..NOTHING
-};
-
-/// The lane of packet 0 alone, which was retired.
-pub(crate) const RETIRED: WrittenLane = WrittenLane {
-    accepted: &[0],
-    drops: &[],
-    counts: (1, 1, 1),
-};
-
-/// One packet steered without a flow table, and delivered.
-pub(crate) const DELIVERED: Written = Written {
-    total: 1,
-    arrivals: &[(0, 0, None, Some(0))],
-    taken: &[1],
-    choices: &[&[(0, PLAIN)]],
-    lanes: &[EMPTY, RETIRED, EMPTY, EMPTY],
-    inboxes: &[&[0]],
-    ..NOTHING
-};
-
-/// The same with three processors, replied to and sent.
-pub(crate) const REPLIED: Written = Written {
-    lanes: &[EMPTY, RETIRED, EMPTY],
-    sent: &[&[(0, 0, 2)]],
-    tx_choices: &[&[(0, classed!(Some(0), None, 0, 0, Unset))]],
-    tx_lanes: &[RETIRED],
-    port: &[0],
-    ..DELIVERED
-};
-
-/// The same where the counters begin at the end of their range.
-pub(crate) const REPLIED_WRAPPED: Written = Written {
-    tx_choices: &[&[(0, classed!(Some(0), None, 4294967295, 0, Unset))]],
-    start: 4294967295,
-    ..REPLIED
-};
-
-/// Two packets of three wait in the ring. The capture has a cut.
-pub(crate) const WAITING: Written = Written {
-    total: 3,
-    cut: Some(9),
-    arrivals: &[(0, 0, None, Some(0)), (1, 0, None, Some(0))],
-    lanes: &[EMPTY, EMPTY],
-    writes: &[&[(3, 1)]],
-    ..NOTHING
-};
-
-/// Packets of two queues: one without a hash, two that a filter sent to queue 1, one that left an
-/// offline processor, and one in the hand of its poller.
-pub(crate) const FILTERED: Written = Written {
-    total: 5,
-    arrivals: &[
-        (0, 0, None, None),
-        (1, 1, Some(1), None),
-        (2, 1, Some(1), None),
-        (3, 1, None, Some(1)),
-        (4, 0, None, Some(1)),
-    ],
-    taken: &[2, 3],
-    choices: &[
-        &[(0, Choice { lane: 0, ..PLAIN })],
-        &[
-            (1, classed!(Some(1), None, 0, 1, Unset)),
-            (2, classed!(Some(1), None, 1, 1, Same)),
-            (3, classed!(Some(0), None, 2, 0, Offline)),
-        ],
-    ],
-    lanes: &[
-        WrittenLane {
-            accepted: &[0, 3],
-            drops: &[],
-            counts: (0, 0, 0),
+        Chosen {
+            id: PacketId(2),
+            choice: classed(Some(1), None, 1, 1, Why::Same),
         },
-        WrittenLane {
-            accepted: &[1, 2],
-            drops: &[],
-            counts: (1, 1, 1),
+        Chosen {
+            id: PacketId(3),
+            choice: classed(Some(0), None, 2, 0, Why::Offline),
         },
-    ],
-    inboxes: &[&[1]],
-    ..NOTHING
-};
+    ];
+    h.choices = two(rt, alloc, one(rt, alloc, first), list(rt, alloc, &others));
+    h
+}
 
-/// Three replies: one left by the port, one waits in its transmit queue, and one was begun.
-pub(crate) const REPLYING: Written = Written {
-    total: 3,
-    arrivals: &[
-        (0, 0, None, Some(0)),
-        (1, 0, None, Some(0)),
-        (2, 0, None, Some(0)),
-    ],
-    taken: &[3],
-    choices: &[&[(0, PLAIN), (1, PLAIN), (2, PLAIN)]],
-    lanes: &[
-        EMPTY,
-        WrittenLane {
-            accepted: &[0, 1, 2],
-            drops: &[],
-            counts: (3, 3, 3),
+// Three replies: one left by the port, one waits in its transmit queue, and one was begun.
+pub(crate) fn replying(rt: &impl Abort, alloc: Global) -> History {
+    let lanes = two(
+        rt,
+        alloc,
+        lane(rt, alloc, &[], 0),
+        lane(rt, alloc, &[0, 1, 2], 3),
+    );
+    let mut h = received(rt, alloc, &[0; 3], &[PLAIN; 3], lanes, &[0, 1, 2]);
+    let begun = Sent {
+        id: PacketId(0),
+        rxq: RxQueue(0),
+        cpu: Cpu(2),
+    };
+    let sent = [
+        begun,
+        Sent {
+            id: PacketId(1),
+            cpu: Cpu(3),
+            ..begun
         },
-    ],
-    inboxes: &[&[0, 1, 2]],
-    sent: &[&[(0, 0, 2), (1, 0, 3), (2, 0, 2)]],
-    tx_choices: &[&[
-        (0, classed!(Some(0), None, 0, 0, Unset)),
-        (1, classed!(Some(1), Some(2), 2, 1, Passed)),
-    ]],
-    tx_lanes: &[
-        RETIRED,
-        WrittenLane {
-            accepted: &[1],
-            drops: &[],
-            counts: (0, 0, 0),
+        Sent {
+            id: PacketId(2),
+            ..begun
         },
-    ],
-    port: &[0],
-    ..NOTHING
-};
+    ];
+    h.sent = one(rt, alloc, list(rt, alloc, &sent));
+    let choices = [
+        classed(Some(0), None, 0, 0, Why::Unset),
+        classed(Some(1), Some(2), 2, 1, Why::Passed),
+    ];
+    h.tx_choices = one(rt, alloc, chosen(rt, alloc, &choices));
+    h.tx_lanes = two(
+        rt,
+        alloc,
+        lane(rt, alloc, &[0], 1),
+        lane(rt, alloc, &[1], 0),
+    );
+    h.port = ids(rt, alloc, &[0]);
+    h
+}
 
 // The lines of a history that the test made for these packets and so many applications. It has to
 // be regular.

@@ -149,7 +149,9 @@ fn packets(alloc: Global) -> Result<Vec<Packet>, OutOfMemory> {
     Ok(packets)
 }
 
-fn put_packets(text: &mut String) -> Result<(), AllocError> {
+fn text(alloc: Global) -> Result<String, AllocError> {
+    let mut text = String::new(alloc);
+    text.push_str("steer 1\n")?;
     for id in 0..PACKETS {
         let way = id % 4;
         let place = id / 4 + 1;
@@ -159,10 +161,6 @@ fn put_packets(text: &mut String) -> Result<(), AllocError> {
                 at {place} app {way} in {place} place inbox\n"
         )?;
     }
-    Ok(())
-}
-
-fn put_replies(text: &mut String) -> Result<(), AllocError> {
     for id in 0..PACKETS {
         let way = id % 4;
         let place = id / 4 + 1;
@@ -173,31 +171,22 @@ fn put_replies(text: &mut String) -> Result<(), AllocError> {
                 same at {place} port {left}\n"
         )?;
     }
-    Ok(())
-}
-
-// The lines behind those of the packets and the replies.
-const REST: &str = "queue 0 arrived 65536 taken 65536
-queue 1 arrived 65536 taken 65536
-queue 2 arrived 65536 taken 65536
-queue 3 arrived 65536 taken 65536
-cpu 0 accepted 65536 pulled 65536 delivered 65536 retired 65536 dropped 0
-cpu 1 accepted 65536 pulled 65536 delivered 65536 retired 65536 dropped 0
-cpu 2 accepted 65536 pulled 65536 delivered 65536 retired 65536 dropped 0
-cpu 3 accepted 65536 pulled 65536 delivered 65536 retired 65536 dropped 0
-tx 0 accepted 65536 pulled 65536 delivered 65536 retired 65536
-tx 1 accepted 65536 pulled 65536 delivered 65536 retired 65536
-tx 2 accepted 65536 pulled 65536 delivered 65536 retired 65536
-tx 3 accepted 65536 pulled 65536 delivered 65536 retired 65536
-end 262144 of 262144
-";
-
-fn text(alloc: Global) -> Result<String, AllocError> {
-    let mut text = String::new(alloc);
-    text.push_str("steer 1\n")?;
-    put_packets(&mut text)?;
-    put_replies(&mut text)?;
-    text.push_str(REST)?;
+    for way in 0..4 {
+        write!(text, "queue {way} arrived 65536 taken 65536\n")?;
+    }
+    for way in 0..4 {
+        write!(
+            text,
+            "cpu {way} accepted 65536 pulled 65536 delivered 65536 retired 65536 dropped 0\n"
+        )?;
+    }
+    for way in 0..4 {
+        write!(
+            text,
+            "tx {way} accepted 65536 pulled 65536 delivered 65536 retired 65536\n"
+        )?;
+    }
+    text.push_str("end 262144 of 262144\n")?;
     Ok(text)
 }
 

@@ -8,8 +8,6 @@ mod histories;
 #[cfg(test)]
 mod large;
 #[cfg(test)]
-mod limited;
-#[cfg(test)]
 mod line_buf;
 #[cfg(test)]
 mod packet_lines;

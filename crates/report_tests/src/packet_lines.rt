@@ -1,12 +1,10 @@
 //! The lines of a packet and of its reply.
 use crate::equal::same;
-use crate::histories::{
-    PLAIN, REPLIED, REPLIED_WRAPPED, SEGMENT, Written, classed, history_of, lines_of,
-};
+use crate::histories::{PLAIN, SEGMENT, classed, lines_of, replied};
 use history::{Lines, PacketLine, Place, ReplyLine, Via};
 use std::alloc::Global;
 use std::process::Abort;
-use steer_base::{AppId, Choice, Cpu, PacketId, Put, RxQueue, Why};
+use steer_base::{AppId, Cpu, PacketId, Put, RxQueue, Why};
 
 // The one packet has this line.
 fn has_packet(rt: &impl Abort, lines: &Lines, line: PacketLine) {
@@ -21,9 +19,10 @@ fn has_reply(rt: &impl Abort, lines: &Lines, reply: ReplyLine) {
     same(rt, &lines.reply(PacketId(1)), &None, 3);
 }
 
-// The lines of a packet that was delivered, and whose reply was sent: both have this position.
-fn has_lines(rt: &impl Abort, alloc: Global, written: &Written, position: u32) {
-    let h = history_of(rt, alloc, written);
+// The lines of a packet that was delivered, and whose reply was sent, where the counters begin at
+// `start`: both have this position.
+fn has_lines(rt: &impl Abort, alloc: Global, start: u32, position: u32) {
+    let h = replied(rt, alloc, start);
     let packets = [SEGMENT];
     let lines = lines_of(rt, alloc, &h, &packets, 1);
     let line = PacketLine {
@@ -43,7 +42,7 @@ fn has_lines(rt: &impl Abort, alloc: Global, written: &Written, position: u32) {
         app: AppId(0),
         rxq: RxQueue(0),
         cpu: Cpu(2),
-        choice: Some(classed!(Some(0), None, written.start, 0, Unset)),
+        choice: Some(classed(Some(0), None, start, 0, Why::Unset)),
         put: Some(position),
         port: Some(1),
         flow_number: 0,
@@ -53,6 +52,6 @@ fn has_lines(rt: &impl Abort, alloc: Global, written: &Written, position: u32) {
 
 #[test]
 fn lines_of_a_packet_and_its_reply(rt: HostRuntime) {
-    has_lines(&rt, rt.alloc(), &REPLIED, 1);
-    has_lines(&rt, rt.alloc(), &REPLIED_WRAPPED, 0);
+    has_lines(&rt, rt.alloc(), 0, 1);
+    has_lines(&rt, rt.alloc(), 4294967295, 0);
 }

@@ -9,7 +9,7 @@ use plan_reader::{Plan, read_plan};
 use std::alloc::Global;
 use std::process::Abort;
 use std::test::Fail;
-use steer_base::{AppId, Command, Cpu, CpuMask, OutOfMemory, Packet, PacketId, RxQueue, TxQueue};
+use steer_base::{AppId, Command, Cpu, CpuMask, OutOfMemory, PacketId, RxQueue, TxQueue};
 use steer_model::{Given, InForce, packets};
 use toeplitz::{Kinds, verification_key};
 
@@ -53,29 +53,25 @@ fn captured(rt: &HostRuntime) -> Result<Vec<u8>, OutOfMemory> {
 fn flows_are_numbered_as_they_appear(rt: HostRuntime) -> Result<(), Fail> {
     let bytes = captured(&rt)?;
     let capture = read_capture(rt.alloc(), &bytes)?;
+    // By their addresses alone the first two flows have one hash, and are two flows.
+    let hash = Some(0x323e_8fc2u32);
     let found = packets(rt.alloc(), &capture, &bytes, &verification_key(), Kinds(1))?;
-    are_found(&rt, &found);
-    Ok(())
-}
-
-// By their addresses alone the first two flows have one hash, and are two flows.
-const BY_ADDRESSES: Option<u32> = Some(0x323e_8fc2);
-
-// The hash, the length and the flow number of each packet.
-const FOUND: [(Option<u32>, u32, u32); 5] = [
-    (BY_ADDRESSES, 38, 0),
-    (BY_ADDRESSES, 38, 1),
-    (BY_ADDRESSES, 42, 0),
-    (None, 14, 2),
-    (BY_ADDRESSES, 38, 0),
-];
-
-fn are_found(rt: &impl Abort, found: &[Packet]) {
-    same(rt, &found.len(), &5, 0);
-    for (packet, wanted) in found.iter().zip(&FOUND) {
-        let seen = (packet.hash, packet.len, packet.flow_number);
-        same(rt, &seen, wanted, 1);
+    same(&rt, &found.len(), &5, 0);
+    for (packet, wanted) in found.iter().zip([
+        (hash, 38u32, 0u32),
+        (hash, 38, 1),
+        (hash, 42, 0),
+        (None, 14, 2),
+        (hash, 38, 0),
+    ]) {
+        same(
+            &rt,
+            &(packet.hash, packet.len, packet.flow_number),
+            &wanted,
+            0,
+        );
     }
+    Ok(())
 }
 
 #[test]
@@ -88,10 +84,10 @@ fn a_plan_and_packets_are_given(rt: HostRuntime) -> Result<(), Fail> {
     has_flows(&rt, &given);
     has_counts(&rt, &given);
     // Without a mask a packet stays at its home.
-    let at_home = masked_lane(&rt, rt.alloc(), &plan, &given, CpuMask(0));
-    same(&rt, &at_home, &Cpu(3), 0);
-    let steered = masked_lane(&rt, rt.alloc(), &plan, &given, CpuMask(0b10));
-    same(&rt, &steered, &Cpu(1), 1);
+    for (mask, cpu) in [(0, 3u8), (0b10, 1)] {
+        let found = masked_lane(&rt, rt.alloc(), &plan, &given, CpuMask(mask));
+        same(&rt, &found, &Cpu(cpu), 0);
+    }
     Ok(())
 }
 

@@ -3,9 +3,8 @@ ghost use Rattle.std.specs.Prelude.{◌≤◌, length};
 ghost use Rattle.history.specs.Places.{IsInReach};
 
 use crate::equal::same;
-use crate::histories::{EMPTY, FULL, MOVED, NOTHING, Written, WrittenLane, history_of};
+use crate::histories::{full, lane, lanes, moved, none, one, received};
 use history::{History, Place};
-use std::alloc::Global;
 use std::process::Abort;
 use steer_base::{AppId, Cpu, PacketId};
 
@@ -24,8 +23,7 @@ fn has_place(rt: &impl Abort, h: &History, id: u32, place: Place) {
 }
 
 // Each packet has its place, the first one that of number 0.
-fn has_places(rt: &impl Abort, alloc: Global, written: &Written, places: &[Place]) {
-    let h = history_of(rt, alloc, written);
+fn has_places(rt: &impl Abort, h: History, places: &[Place]) {
     for (place, id) in places.iter().zip(0u32..) {
         has_place(rt, &h, id, *place);
     }
@@ -38,7 +36,7 @@ fn packets_are_in_hand_dropped_and_waiting(rt: HostRuntime) {
         Place::Dropped(Cpu(1)),
         Place::Backlog(Cpu(1)),
     ];
-    has_places(&rt, rt.alloc(), &FULL, &places);
+    has_places(&rt, full(&rt, rt.alloc()), &places);
 }
 
 #[test]
@@ -49,44 +47,27 @@ fn delivered_packets_are_in_the_inbox(rt: HostRuntime) {
         Place::Inbox(AppId(0)),
         Place::Backlog(Cpu(2)),
     ];
-    has_places(&rt, rt.alloc(), &MOVED, &places);
+    has_places(&rt, moved(&rt, rt.alloc(), 0), &places);
 }
-
-// One packet of queue 0 was taken.
-const TAKEN: Written = Written {
-    total: 3,
-    arrivals: &[
-        (0, 0, None, Some(0)),
-        (1, 1, None, Some(1)),
-        (2, 0, None, Some(0)),
-    ],
-    taken: &[1],
-    lanes: &[],
-    ..NOTHING
-};
 
 #[test]
 fn the_poller_takes_the_first_of_its_queue(rt: HostRuntime) {
-    let places = [Place::Poller, Place::Ring, Place::Ring];
-    has_places(&rt, rt.alloc(), &TAKEN, &places);
+    let alloc = rt.alloc();
+    let mut h = received(&rt, alloc, &[0, 1, 0], &[], none(alloc), &[]);
+    h.taken = one(&rt, alloc, 1);
+    has_places(&rt, h, &[Place::Poller, Place::Ring, Place::Ring]);
 }
-
-// Two lanes accepted the packet.
-const TWICE: Written = Written {
-    total: 1,
-    arrivals: &[(0, 0, None, Some(0))],
-    taken: &[1],
-    lanes: &[EMPTY, ACCEPTED, ACCEPTED],
-    ..NOTHING
-};
-
-const ACCEPTED: WrittenLane = WrittenLane {
-    accepted: &[0],
-    drops: &[],
-    counts: (0, 0, 0),
-};
 
 #[test]
 fn the_least_processor_is_shown(rt: HostRuntime) {
-    has_places(&rt, rt.alloc(), &TWICE, &[Place::Backlog(Cpu(1))]);
+    let alloc = rt.alloc();
+    let lanes = lanes(
+        &rt,
+        alloc,
+        3,
+        lane(&rt, alloc, &[0], 0),
+        lane(&rt, alloc, &[0], 0),
+    );
+    let h = received(&rt, alloc, &[0], &[], lanes, &[]);
+    has_places(&rt, h, &[Place::Backlog(Cpu(1))]);
 }

@@ -2,126 +2,107 @@
 ghost use Rattle.std.specs.Prelude.{◌≤◌, length};
 
 use crate::histories::{
-    EMPTY, PLAIN, REPLIED, RETIRED, SEGMENT, Written, WrittenLane, classed, history_of, list,
+    PLAIN, SEGMENT, chosen, classed, ids, lane, lanes, none, one, replied, two,
 };
-use history::{Commanded, History};
+use history::{Commanded, History, LaneList, Sent};
 use history_check::is_regular;
 use std::alloc::Global;
 use std::process::Abort;
-use steer_base::{Answer, Choice, Command, DropCause, Idle, Packet, Why};
-
-// The one choice of packet 0 for a transmit queue, but for what is wrong.
-const FIRST: Choice = classed!(Some(0), None, 0, 0, Unset);
-
-// What is wrong in a history, and the history.
-type Faulty = (&'static str, Written);
-
-const FAULTY_PACKETS: [Faulty; 3] = [
-    (
-        "MoreTakenThanArrived",
-        Written {
-            taken: &[2],
-            ..REPLIED
-        },
-    ),
-    (
-        "OtherLaneChosen",
-        Written {
-            choices: &[&[(0, Choice { lane: 2, ..PLAIN })]],
-            ..REPLIED
-        },
-    ),
-    (
-        "AlsoDropped",
-        Written {
-            lanes: &[EMPTY, ALSO_DROPPED, EMPTY],
-            ..REPLIED
-        },
-    ),
-];
-
-const FAULTY_INBOXES: [Faulty; 3] = [
-    (
-        "TwiceDelivered",
-        Written {
-            inboxes: &[&[0, 0]],
-            ..REPLIED
-        },
-    ),
-    (
-        "NotDelivered",
-        Written {
-            inboxes: &[&[]],
-            ..REPLIED
-        },
-    ),
-    (
-        "MoreInboxes",
-        Written {
-            inboxes: &[&[0], &[]],
-            ..REPLIED
-        },
-    ),
-];
-
-const FAULTY_CHOICES: [Faulty; 3] = [
-    (
-        "NoClass",
-        Written {
-            tx_choices: &[&[(
-                0,
-                Choice {
-                    class: None,
-                    ..FIRST
-                },
-            )]],
-            ..REPLIED
-        },
-    ),
-    (
-        "NoWant",
-        Written {
-            tx_choices: &[&[(
-                0,
-                Choice {
-                    want: None,
-                    ..FIRST
-                },
-            )]],
-            ..REPLIED
-        },
-    ),
-    (
-        "NotChosen",
-        Written {
-            tx_choices: &[&[]],
-            ..REPLIED
-        },
-    ),
-];
-
-const FAULTY_REPLIES: [Faulty; 2] = [
-    (
-        "OtherQueue",
-        Written {
-            sent: &[&[(0, 1, 2)]],
-            ..REPLIED
-        },
-    ),
-    (
-        "NotQueued",
-        Written {
-            tx_lanes: &[EMPTY],
-            ..REPLIED
-        },
-    ),
-];
-
-// The lane of packet 0, which was retired and dropped.
-const ALSO_DROPPED: WrittenLane = WrittenLane {
-    drops: &[(0, 1, 0, DropCause::Full)],
-    ..RETIRED
+use steer_base::{
+    Answer, Choice, Chosen, Command, Cpu, DropCause, Idle, LaneDrop, List, Packet, PacketId,
+    RxQueue, Why,
 };
+
+// What is wrong in a history.
+#[derive(Clone, Copy, Debug)]
+enum Fault {
+    MoreTakenThanArrived,
+    OtherLaneChosen,
+    AlsoDropped,
+    TwiceDelivered,
+    NotDelivered,
+    OtherQueue,
+    NoClass,
+    NoWant,
+    NotChosen,
+    NotQueued,
+    NoText,
+    MoreInboxes,
+}
+
+// The lanes of three processors, of which the second accepted packet 0 and dropped it.
+fn lanes_with_a_drop(rt: &impl Abort, alloc: Global) -> List<LaneList> {
+    let fallen = LaneDrop {
+        id: PacketId(0),
+        accepted: 1,
+        pulled: 0,
+        cause: DropCause::Full,
+    };
+    let mut second = lane(rt, alloc, &[0], 1);
+    second.drops = one(rt, alloc, fallen);
+    lanes(rt, alloc, 3, second, lane(rt, alloc, &[], 0))
+}
+
+// A list of the one choice for packet 0.
+fn one_choice(rt: &impl Abort, alloc: Global, choice: Choice) -> List<List<Chosen>> {
+    one(rt, alloc, chosen(rt, alloc, &[choice]))
+}
+
+// A list of the one reply to packet 0, of a queue.
+fn sent_from(rt: &impl Abort, alloc: Global, rxq: RxQueue) -> List<List<Sent>> {
+    let reply = Sent {
+        id: PacketId(0),
+        rxq,
+        cpu: Cpu(2),
+    };
+    one(rt, alloc, one(rt, alloc, reply))
+}
+
+// A command with an answer that a report cannot show.
+fn idle_command(rt: &impl Abort, alloc: Global) -> List<Commanded> {
+    let commanded = Commanded {
+        command: Command::Expire,
+        answer: Answer::Idle(Idle::Nothing),
+    };
+    one(rt, alloc, commanded)
+}
+
+// The history of one packet with this fault.
+fn faulty(rt: &impl Abort, alloc: Global, fault: Fault) -> History {
+    let first = classed(Some(0), None, 0, 0, Why::Unset);
+    let mut h = replied(rt, alloc, 0);
+    match fault {
+        Fault::MoreTakenThanArrived => h.taken = one(rt, alloc, 2),
+        Fault::OtherLaneChosen => {
+            h.choices = one_choice(rt, alloc, Choice { lane: 2, ..PLAIN });
+        }
+        Fault::AlsoDropped => h.lanes = lanes_with_a_drop(rt, alloc),
+        Fault::TwiceDelivered => h.inboxes = one(rt, alloc, ids(rt, alloc, &[0, 0])),
+        Fault::NotDelivered => h.inboxes = one(rt, alloc, none(alloc)),
+        Fault::OtherQueue => h.sent = sent_from(rt, alloc, RxQueue(1)),
+        Fault::NoClass => {
+            let choice = Choice {
+                class: None,
+                ..first
+            };
+            h.tx_choices = one_choice(rt, alloc, choice);
+        }
+        Fault::NoWant => {
+            let choice = Choice {
+                want: None,
+                ..first
+            };
+            h.tx_choices = one_choice(rt, alloc, choice);
+        }
+        Fault::NotChosen => h.tx_choices = one(rt, alloc, none(alloc)),
+        Fault::NotQueued => h.tx_lanes = one(rt, alloc, lane(rt, alloc, &[], 0)),
+        Fault::NoText => h.commands = idle_command(rt, alloc),
+        Fault::MoreInboxes => {
+            h.inboxes = two(rt, alloc, ids(rt, alloc, &[0]), none(alloc));
+        }
+    }
+    h
+}
 
 fn has_passed(rt: &impl Abort, alloc: Global, h: &History, packets: &[Packet], apps: u8) -> bool
     requires apps { 1 ≤ apps }
@@ -130,63 +111,30 @@ fn has_passed(rt: &impl Abort, alloc: Global, h: &History, packets: &[Packet], a
     is_regular(alloc, h, packets, apps).expect(rt, "memory")
 }
 
-// This is regular as it is, and not with another number of applications or without its packet.
-fn is_regular_alone(rt: &impl Abort, alloc: Global, whole: &History) {
-    assert!(rt; has_passed(rt, alloc, whole, &[SEGMENT], 1));
-    assert!(rt; !has_passed(rt, alloc, whole, &[SEGMENT], 2));
-    assert!(rt; !has_passed(rt, alloc, whole, &[], 1));
-}
-
-fn written_is_irregular(rt: &impl Abort, alloc: Global, fault: &str, written: &Written) {
-    let h = history_of(rt, alloc, written);
-    is_irregular(rt, alloc, fault, &h);
-}
-
 #[test]
-fn only_a_whole_history_is_regular(rt: HostRuntime) {
-    let whole = history_of(&rt, rt.alloc(), &REPLIED);
-    is_regular_alone(&rt, rt.alloc(), &whole);
-}
-
-fn are_irregular(rt: &impl Abort, alloc: Global, faulty: &[Faulty]) {
-    for (fault, written) in faulty {
-        written_is_irregular(rt, alloc, *fault, written);
+fn each_fault_is_irregular(rt: HostRuntime) {
+    let alloc = rt.alloc();
+    let packets = [SEGMENT];
+    let whole = replied(&rt, alloc, 0);
+    assert!(&rt; has_passed(&rt, alloc, &whole, &packets, 1));
+    assert!(&rt; !has_passed(&rt, alloc, &whole, &packets, 2));
+    assert!(&rt; !has_passed(&rt, alloc, &whole, &[], 1));
+    let faults = [
+        Fault::MoreTakenThanArrived,
+        Fault::OtherLaneChosen,
+        Fault::AlsoDropped,
+        Fault::TwiceDelivered,
+        Fault::NotDelivered,
+        Fault::OtherQueue,
+        Fault::NoClass,
+        Fault::NoWant,
+        Fault::NotChosen,
+        Fault::NotQueued,
+        Fault::NoText,
+        Fault::MoreInboxes,
+    ];
+    for fault in faults {
+        let h = faulty(&rt, alloc, fault);
+        assert!(&rt; !has_passed(&rt, alloc, &h, &packets, 1), "{fault:?}");
     }
-}
-
-#[test]
-fn packets_in_two_places_are_irregular(rt: HostRuntime) {
-    are_irregular(&rt, rt.alloc(), &FAULTY_PACKETS);
-}
-
-#[test]
-fn inboxes_of_other_packets_are_irregular(rt: HostRuntime) {
-    are_irregular(&rt, rt.alloc(), &FAULTY_INBOXES);
-}
-
-#[test]
-fn choices_without_their_fields_are_irregular(rt: HostRuntime) {
-    are_irregular(&rt, rt.alloc(), &FAULTY_CHOICES);
-}
-
-#[test]
-fn replies_elsewhere_are_irregular(rt: HostRuntime) {
-    are_irregular(&rt, rt.alloc(), &FAULTY_REPLIES);
-}
-
-#[test]
-fn an_answer_without_a_text_is_irregular(rt: HostRuntime) {
-    let mut without_text = history_of(&rt, rt.alloc(), &REPLIED);
-    without_text.commands = list(&rt, rt.alloc(), &[IDLE]);
-    is_irregular(&rt, rt.alloc(), "NoText", &without_text);
-}
-
-// A command with an answer that a report cannot show.
-const IDLE: Commanded = Commanded {
-    command: Command::Expire,
-    answer: Answer::Idle(Idle::Nothing),
-};
-
-fn is_irregular(rt: &impl Abort, alloc: Global, fault: &str, h: &History) {
-    assert!(rt; !has_passed(rt, alloc, h, &[SEGMENT], 1), "{fault}");
 }

@@ -4,13 +4,13 @@ ghost use Rattle.report.specs.Made.{AreLinesOf};
 
 use crate::equal::same_items;
 use crate::histories::{
-    DELIVERED, FILTERED, FULL, MOVED, MOVED_WRAPPED, NOTHING, REPLIED, REPLIED_WRAPPED, REPLYING,
-    SEGMENT, WAITING, Written, history_of, lines_of, list,
+    OTHER_SEGMENT, SEGMENT, delivered, filtered, full, lane, limited, lines_of, list, moved, one,
+    received, replied, replying, waiting,
 };
 use history::{Commanded, History, Lines};
 use outside_io::MemorySink;
 use report::{LineBuf, render};
-use std::alloc::Global;
+use std::alloc::{AllocError, Global};
 use std::process::Abort;
 use steer_base::{
     Answer, AppId, Busy, Command, Cpu, CpuMask, Detach, Idle, Packet, RxQueue, TxQueue, User,
@@ -36,7 +36,7 @@ fn written(
 }
 
 // The report of a history with one application, without taps, is this text.
-pub(crate) fn reads(rt: &impl Abort, alloc: Global, h: &History, packets: &[Packet], wanted: &[u8])
+fn reads(rt: &impl Abort, alloc: Global, h: &History, packets: &[Packet], wanted: &[u8])
     requires few { length packets.now ≤ 262144 }
 {
     let lines = lines_of(rt, alloc, h, packets, 1);
@@ -45,15 +45,9 @@ pub(crate) fn reads(rt: &impl Abort, alloc: Global, h: &History, packets: &[Pack
     same_items(rt, out.bytes(), wanted);
 }
 
-// The same of a history that is written out, of packets of one flow.
-fn is_reported(rt: &impl Abort, alloc: Global, written: &Written, wanted: &[u8]) {
-    let packets = Vec::from_elem(alloc, SEGMENT, written.total as usize).expect(rt, "memory");
-    assert!(rt; packets.len() <= 262_144);
-    reads(rt, alloc, &history_of(rt, alloc, written), &packets, wanted);
-}
-
 #[test]
 fn a_flow_moves_when_its_packets_are_retired(rt: HostRuntime) {
+    let alloc = rt.alloc();
     let wanted = b"steer 1
 p 0 q 0 via reta class 0 want - head - tail 0 cpu 1 why unset at 1 app 0 in 1 place inbox
 p 1 q 0 via reta class 0 want 2 head 0 tail 1 cpu 1 why kept at 2 app 0 in 2 place inbox
@@ -68,7 +62,13 @@ tx 0 accepted 0 pulled 0 delivered 0 retired 0
 w app 0 entry 0 cpu 2
 end 4 of 4
 ";
-    is_reported(&rt, rt.alloc(), &MOVED, wanted);
+    reads(
+        &rt,
+        alloc,
+        &moved(&rt, alloc, 0),
+        &[SEGMENT; 4],
+        wanted.as_slice(),
+    );
     let wanted = b"steer 1
 p 0 q 0 via reta class 0 want - head - tail 4294967294 cpu 1 why unset at 4294967295 \
 app 0 in 1 place inbox
@@ -86,11 +86,18 @@ tx 0 accepted 0 pulled 0 delivered 0 retired 0
 w app 0 entry 0 cpu 2
 end 4 of 4
 ";
-    is_reported(&rt, rt.alloc(), &MOVED_WRAPPED, wanted);
+    reads(
+        &rt,
+        alloc,
+        &moved(&rt, alloc, 4294967294),
+        &[SEGMENT; 4],
+        wanted.as_slice(),
+    );
 }
 
 #[test]
 fn a_full_backlog_drops(rt: HostRuntime) {
+    let alloc = rt.alloc();
     let wanted = b"steer 1
 p 0 q 0 via reta class - want - head - tail - cpu 1 why plain at 1 app 0 in - place hand
 p 1 q 0 via reta class - want - head - tail - cpu 1 why plain at drop 1 1 0 app 0 in - place drop
@@ -103,11 +110,18 @@ cpu 3 accepted 0 pulled 0 delivered 0 retired 0 dropped 0
 tx 0 accepted 0 pulled 0 delivered 0 retired 0
 end 3 of 3
 ";
-    is_reported(&rt, rt.alloc(), &FULL, wanted);
+    reads(
+        &rt,
+        alloc,
+        &full(&rt, alloc),
+        &[SEGMENT; 3],
+        wanted.as_slice(),
+    );
 }
 
 #[test]
 fn a_packet_is_delivered(rt: HostRuntime) {
+    let alloc = rt.alloc();
     let wanted = b"steer 1
 p 0 q 0 via reta class - want - head - tail - cpu 1 why plain at 1 app 0 in 1 place inbox
 queue 0 arrived 1 taken 1
@@ -118,11 +132,18 @@ cpu 3 accepted 0 pulled 0 delivered 0 retired 0 dropped 0
 tx 0 accepted 0 pulled 0 delivered 0 retired 0
 end 1 of 1
 ";
-    is_reported(&rt, rt.alloc(), &DELIVERED, wanted);
+    reads(
+        &rt,
+        alloc,
+        &delivered(&rt, alloc, 4),
+        &[SEGMENT],
+        wanted.as_slice(),
+    );
 }
 
 #[test]
 fn a_reply_is_sent(rt: HostRuntime) {
+    let alloc = rt.alloc();
     let wanted = b"steer 1
 p 0 q 0 via reta class - want - head - tail - cpu 1 why plain at 1 app 0 in 1 place inbox
 r 0 app 0 rxq 0 cpu 2 pick 0 head - tail 0 tx 0 why unset at 1 port 1
@@ -133,7 +154,13 @@ cpu 2 accepted 0 pulled 0 delivered 0 retired 0 dropped 0
 tx 0 accepted 1 pulled 1 delivered 1 retired 1
 end 1 of 1
 ";
-    is_reported(&rt, rt.alloc(), &REPLIED, wanted);
+    reads(
+        &rt,
+        alloc,
+        &replied(&rt, alloc, 0),
+        &[SEGMENT],
+        wanted.as_slice(),
+    );
     let wanted = b"steer 1
 p 0 q 0 via reta class - want - head - tail - cpu 1 why plain at 0 app 0 in 1 place inbox
 r 0 app 0 rxq 0 cpu 2 pick 0 head - tail 4294967295 tx 0 why unset at 0 port 1
@@ -144,11 +171,64 @@ cpu 2 accepted 0 pulled 0 delivered 0 retired 0 dropped 0
 tx 0 accepted 1 pulled 1 delivered 1 retired 1
 end 1 of 1
 ";
-    is_reported(&rt, rt.alloc(), &REPLIED_WRAPPED, wanted);
+    reads(
+        &rt,
+        alloc,
+        &replied(&rt, alloc, 4294967295),
+        &[SEGMENT],
+        wanted.as_slice(),
+    );
+}
+
+// What the flow limit leaves of 201 packets, of which the last is of another flow.
+fn limited_text(alloc: Global) -> Result<String, AllocError> {
+    let mut text = String::new(alloc);
+    text.push_str("steer 1\n")?;
+    let head = "q 0 via reta class - want - head - tail - cpu 1 why plain at";
+    for id in 0u32..151 {
+        let position = id + 1;
+        write!(text, "p {id} {head} {position} app 0 in - place backlog\n")?;
+    }
+    for id in 151u32..200 {
+        let number = id - 150;
+        let offers = id + 1;
+        write!(
+            text,
+            "p {id} {head} drop {number} 151 0 flow {offers} app 0 in - place drop\n"
+        )?;
+    }
+    write!(text, "p 200 {head} 152 app 0 in - place backlog\n")?;
+    text.push_str(
+        "queue 0 arrived 201 taken 201
+cpu 0 accepted 0 pulled 0 delivered 0 retired 0 dropped 0
+cpu 1 accepted 152 pulled 0 delivered 0 retired 0 dropped 49
+cpu 2 accepted 0 pulled 0 delivered 0 retired 0 dropped 0
+cpu 3 accepted 0 pulled 0 delivered 0 retired 0 dropped 0
+tx 0 accepted 0 pulled 0 delivered 0 retired 0
+end 201 of 201
+",
+    )?;
+    Ok(text)
+}
+
+#[test]
+fn the_flow_limit_drops(rt: HostRuntime) {
+    let alloc = rt.alloc();
+    let mut packets = [SEGMENT; 201];
+    packets[200] = OTHER_SEGMENT;
+    let wanted = limited_text(alloc).expect(&rt, "memory");
+    reads(
+        &rt,
+        alloc,
+        &limited(&rt, alloc),
+        &packets,
+        wanted.as_bytes(),
+    );
 }
 
 #[test]
 fn packets_come_by_each_way(rt: HostRuntime) {
+    let alloc = rt.alloc();
     let wanted = b"steer 1
 p 0 q 0 via none class - want - head - tail - cpu 0 why plain at 1 app 0 in - place backlog
 p 1 q 1 via filter class 0 want 1 head - tail 0 cpu 1 why unset at 1 app 0 in 1 place inbox
@@ -162,11 +242,18 @@ cpu 1 accepted 2 pulled 1 delivered 1 retired 1 dropped 0
 tx 0 accepted 0 pulled 0 delivered 0 retired 0
 end 5 of 5
 ";
-    is_reported(&rt, rt.alloc(), &FILTERED, wanted);
+    reads(
+        &rt,
+        alloc,
+        &filtered(&rt, alloc),
+        &[SEGMENT; 5],
+        wanted.as_slice(),
+    );
 }
 
 #[test]
 fn replies_are_at_each_stage(rt: HostRuntime) {
+    let alloc = rt.alloc();
     let wanted = b"steer 1
 p 0 q 0 via reta class - want - head - tail - cpu 1 why plain at 1 app 0 in 1 place inbox
 p 1 q 0 via reta class - want - head - tail - cpu 1 why plain at 2 app 0 in 2 place inbox
@@ -181,62 +268,64 @@ tx 0 accepted 1 pulled 1 delivered 1 retired 1
 tx 1 accepted 1 pulled 0 delivered 0 retired 0
 end 3 of 3
 ";
-    is_reported(&rt, rt.alloc(), &REPLYING, wanted);
+    reads(
+        &rt,
+        alloc,
+        &replying(&rt, alloc),
+        &[SEGMENT; 3],
+        wanted.as_slice(),
+    );
 }
 
-const MASK: Command = Command::Mask(RxQueue(0), CpuMask(4));
-
-// A command and its answer.
-macro_rules! commanded {
-    ($command:expr, $answer:expr $(,)?) => {
-        Commanded {
-            command: $command,
-            answer: $answer,
-        }
-    };
+fn mask(cpus: u32) -> Command {
+    Command::Mask(RxQueue(0), CpuMask(cpus))
 }
 
-// Lane 1 is not empty.
-macro_rules! not_empty {
-    ($head:expr, $tail:expr) => {
-        Answer::Busy(Busy::NotEmpty {
-            lane: 1,
-            head: $head,
-            tail: $tail,
-        })
-    };
+fn not_empty(head: u32, tail: u32) -> Answer {
+    Answer::Busy(Busy::NotEmpty {
+        lane: 1,
+        head,
+        tail,
+    })
 }
 
-const COMMANDS: [Commanded; 16] = [
-    commanded!(MASK, not_empty!(0, 1)),
-    commanded!(MASK, not_empty!(4294967295, 0)),
-    commanded!(MASK, Answer::Busy(Busy::Inside(1))),
-    commanded!(MASK, Answer::Done),
-    commanded!(
-        Command::Offline(Cpu(0)),
-        Answer::CpuInUse(User::Queue(RxQueue(0))),
-    ),
-    commanded!(
-        Command::Offline(Cpu(2)),
-        Answer::CpuInUse(User::App(AppId(0))),
-    ),
-    commanded!(Command::Stand(AppId(0), Cpu(2)), Answer::CpuOffline),
-    commanded!(Command::Online(Cpu(3)), Answer::Idle(Idle::AlreadyOnline)),
-    commanded!(Command::Expire, Answer::Expired(0)),
-    commanded!(Command::Expire, Answer::Expired(1)),
-    commanded!(Command::Reta(120, RxQueue(1)), Answer::Done),
-    commanded!(Command::Flows(RxQueue(1), 3), Answer::Done),
-    commanded!(Command::Sock(16), Answer::Done),
-    commanded!(
-        Command::XCpus(TxQueue(0), CpuMask(0x8000_0009)),
-        Answer::Done,
-    ),
-    commanded!(Command::XQueues(TxQueue(1), 0x8001), Answer::Done),
-    commanded!(Command::Mask(RxQueue(0), CpuMask(0)), Answer::Done),
-];
+fn commanded(command: Command, answer: Answer) -> Commanded {
+    Commanded { command, answer }
+}
 
 #[test]
 fn commands_are_listed_with_their_answers(rt: HostRuntime) {
+    let alloc = rt.alloc();
+    let commands = [
+        commanded(mask(4), not_empty(0, 1)),
+        commanded(mask(4), not_empty(4294967295, 0)),
+        commanded(mask(4), Answer::Busy(Busy::Inside(1))),
+        commanded(mask(4), Answer::Done),
+        commanded(
+            Command::Offline(Cpu(0)),
+            Answer::CpuInUse(User::Queue(RxQueue(0))),
+        ),
+        commanded(
+            Command::Offline(Cpu(2)),
+            Answer::CpuInUse(User::App(AppId(0))),
+        ),
+        commanded(Command::Stand(AppId(0), Cpu(2)), Answer::CpuOffline),
+        commanded(Command::Online(Cpu(3)), Answer::Idle(Idle::AlreadyOnline)),
+        commanded(Command::Expire, Answer::Expired(0)),
+        commanded(Command::Expire, Answer::Expired(1)),
+        commanded(Command::Reta(120, RxQueue(1)), Answer::Done),
+        commanded(Command::Flows(RxQueue(1), 3), Answer::Done),
+        commanded(Command::Sock(16), Answer::Done),
+        commanded(
+            Command::XCpus(TxQueue(0), CpuMask(0x8000_0009)),
+            Answer::Done,
+        ),
+        commanded(Command::XQueues(TxQueue(1), 0x8001), Answer::Done),
+        commanded(mask(0), Answer::Done),
+    ];
+    let lanes = one(&rt, alloc, lane(&rt, alloc, &[], 0));
+    let mut h = received(&rt, alloc, &[], &[], lanes, &[]);
+    h.commands = list(&rt, alloc, &commands);
     let wanted = b"steer 1
 queue 0 arrived 0 taken 0
 cpu 0 accepted 0 pulled 0 delivered 0 retired 0 dropped 0
@@ -259,10 +348,7 @@ c 14 xqueues 1 0,15 done
 c 15 mask 0 - done
 end 0 of 0
 ";
-    let alloc = rt.alloc();
-    let mut h = history_of(&rt, alloc, &NOTHING);
-    h.commands = list(&rt, alloc, &COMMANDS);
-    reads(&rt, alloc, &h, &[], wanted);
+    reads(&rt, alloc, &h, &[], wanted.as_slice());
 }
 
 // The texts of a tap of processors, which is shown two lines of four, and a tap of flows.
@@ -279,7 +365,7 @@ fn two_texts(rt: &impl Abort, alloc: Global, lines: &Lines) -> Vec<TapText> {
 #[test]
 fn two_taps_stand_before_the_end(rt: HostRuntime) {
     let alloc = rt.alloc();
-    let h = history_of(&rt, alloc, &MOVED);
+    let h = moved(&rt, alloc, 0);
     let packets = [SEGMENT; 4];
     let lines = lines_of(&rt, alloc, &h, &packets, 1);
     let texts = two_texts(&rt, alloc, &lines);
@@ -347,60 +433,42 @@ fn goes_out(
     goes_out_whole(rt, alloc, h, lines, texts, &wanted);
 }
 
-// The lines of a flow that moved.
-const MOVED_LINES: [&[u8]; 13] = [
-    b"steer 1\n",
-    b"p 0 q 0 via reta class 0 want - head - tail 0 cpu 1 why unset at 1 \
-        app 0 in 1 place inbox\n",
-    b"p 1 q 0 via reta class 0 want 2 head 0 tail 1 cpu 1 why kept at 2 app \
-        0 in 2 place inbox\n",
-    b"p 2 q 0 via reta class 0 want 2 head 0 tail 2 cpu 1 why kept at 3 app \
-        0 in 3 place inbox\n",
-    b"p 3 q 0 via reta class 0 want 2 head 3 tail 3 cpu 2 why passed at 1 \
-        app 0 in - place backlog\n",
-    b"queue 0 arrived 4 taken 4\n",
-    b"cpu 0 accepted 0 pulled 0 delivered 0 retired 0 dropped 0\n",
-    b"cpu 1 accepted 3 pulled 3 delivered 3 retired 3 dropped 0\n",
-    b"cpu 2 accepted 1 pulled 0 delivered 0 retired 0 dropped 0\n",
-    b"cpu 3 accepted 0 pulled 0 delivered 0 retired 0 dropped 0\n",
-    b"tx 0 accepted 0 pulled 0 delivered 0 retired 0\n",
-    b"w app 0 entry 0 cpu 2\n",
-    b"end 4 of 4\n",
-];
-
 #[test]
 fn a_report_goes_out_line_by_line(rt: HostRuntime) {
     let alloc = rt.alloc();
-    let h = history_of(&rt, alloc, &MOVED);
+    let h = moved(&rt, alloc, 0);
     let packets = [SEGMENT; 4];
     let lines = lines_of(&rt, alloc, &h, &packets, 1);
-    goes_out(&rt, alloc, &h, &lines, &[], &MOVED_LINES);
+    let pieces = [
+        b"steer 1\n".as_slice(),
+        b"p 0 q 0 via reta class 0 want - head - tail 0 cpu 1 why unset at 1 \
+            app 0 in 1 place inbox\n"
+            .as_slice(),
+        b"p 1 q 0 via reta class 0 want 2 head 0 tail 1 cpu 1 why kept at 2 app \
+            0 in 2 place inbox\n"
+            .as_slice(),
+        b"p 2 q 0 via reta class 0 want 2 head 0 tail 2 cpu 1 why kept at 3 app \
+            0 in 3 place inbox\n"
+            .as_slice(),
+        b"p 3 q 0 via reta class 0 want 2 head 3 tail 3 cpu 2 why passed at 1 \
+            app 0 in - place backlog\n"
+            .as_slice(),
+        b"queue 0 arrived 4 taken 4\n".as_slice(),
+        b"cpu 0 accepted 0 pulled 0 delivered 0 retired 0 dropped 0\n".as_slice(),
+        b"cpu 1 accepted 3 pulled 3 delivered 3 retired 3 dropped 0\n".as_slice(),
+        b"cpu 2 accepted 1 pulled 0 delivered 0 retired 0 dropped 0\n".as_slice(),
+        b"cpu 3 accepted 0 pulled 0 delivered 0 retired 0 dropped 0\n".as_slice(),
+        b"tx 0 accepted 0 pulled 0 delivered 0 retired 0\n".as_slice(),
+        b"w app 0 entry 0 cpu 2\n".as_slice(),
+        b"end 4 of 4\n".as_slice(),
+    ];
+    goes_out(&rt, alloc, &h, &lines, &[], &pieces);
 }
-
-// The pieces of a report with two packets that wait, a command and a tap.
-const WAITING_LINES: [&[u8]; 12] = [
-    b"steer 1\n",
-    b"p 0 q 0 via reta class - want - head - tail - cpu - why - at - app 0 \
-        in - place ring\n",
-    b"p 1 q 0 via reta class - want - head - tail - cpu - why - at - app 0 \
-        in - place ring\n",
-    b"queue 0 arrived 2 taken 0\n",
-    b"cpu 0 accepted 0 pulled 0 delivered 0 retired 0 dropped 0\n",
-    b"cpu 1 accepted 0 pulled 0 delivered 0 retired 0 dropped 0\n",
-    b"tx 0 accepted 0 pulled 0 delivered 0 retired 0\n",
-    b"w app 0 entry 3 cpu 1\n",
-    b"c 0 mask 0 1 done\n",
-    b"tap 0 bytes 34\n",
-    b"flow 0 packets 2\nflow 1 packets 1\n",
-    b"end 2 of 3 cut 9\n",
-];
 
 #[test]
 fn each_section_goes_out_line_by_line(rt: HostRuntime) {
     let alloc = rt.alloc();
-    let mut h = history_of(&rt, alloc, &WAITING);
-    let command = commanded!(Command::Mask(RxQueue(0), CpuMask(2)), Answer::Done);
-    h.commands = list(&rt, alloc, &[command]);
+    let h = waiting(&rt, alloc);
     let packets = [SEGMENT; 3];
     let lines = lines_of(&rt, alloc, &h, &packets, 1);
     let texts = [TapText {
@@ -408,5 +476,23 @@ fn each_section_goes_out_line_by_line(rt: HostRuntime) {
             &rt, "memory",
         ),
     }];
-    goes_out(&rt, alloc, &h, &lines, &texts, &WAITING_LINES);
+    let pieces = [
+        b"steer 1\n".as_slice(),
+        b"p 0 q 0 via reta class - want - head - tail - cpu - why - at - app 0 \
+            in - place ring\n"
+            .as_slice(),
+        b"p 1 q 0 via reta class - want - head - tail - cpu - why - at - app 0 \
+            in - place ring\n"
+            .as_slice(),
+        b"queue 0 arrived 2 taken 0\n".as_slice(),
+        b"cpu 0 accepted 0 pulled 0 delivered 0 retired 0 dropped 0\n".as_slice(),
+        b"cpu 1 accepted 0 pulled 0 delivered 0 retired 0 dropped 0\n".as_slice(),
+        b"tx 0 accepted 0 pulled 0 delivered 0 retired 0\n".as_slice(),
+        b"w app 0 entry 3 cpu 1\n".as_slice(),
+        b"c 0 mask 0 1 done\n".as_slice(),
+        b"tap 0 bytes 34\n".as_slice(),
+        b"flow 0 packets 2\nflow 1 packets 1\n".as_slice(),
+        b"end 2 of 3 cut 9\n".as_slice(),
+    ];
+    goes_out(&rt, alloc, &h, &lines, &texts, &pieces);
 }

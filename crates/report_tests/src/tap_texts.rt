@@ -2,7 +2,7 @@
 ghost use Rattle.std.specs.Prelude.{◌≡◌, length};
 
 use crate::equal::{same, same_items};
-use crate::histories::{NOTHING, PLAIN, SEGMENT, Written, history_of, lines_of};
+use crate::histories::{PLAIN, SEGMENT, lines_of, none, received};
 use history::{History, Lines, PacketLine, Place, Via};
 use std::alloc::Global;
 use std::cell::Cell;
@@ -200,23 +200,11 @@ fn fed(alloc: Global, lines: &Lines, failing: u32) -> Result<(bool, u32, u32, u3
     ))
 }
 
-// Three packets were taken from their queue, and not weighed.
-const IN_RING: Written = Written {
-    total: 3,
-    arrivals: &[
-        (0, 0, None, Some(0)),
-        (1, 0, None, Some(0)),
-        (2, 0, None, Some(0)),
-    ],
-    taken: &[3],
-    lanes: &[],
-    ..NOTHING
-};
-
 #[test]
 fn every_tap_is_dropped_once(rt: HostRuntime) -> Result<(), Fail> {
     let alloc = rt.alloc();
-    let h = history_of(&rt, alloc, &IN_RING);
+    // Three packets wait in the ring of their queue.
+    let h = received(&rt, alloc, &[0; 3], &[], none(alloc), &[]);
     let packets = [SEGMENT; 3];
     let lines = three_lines(&rt, alloc, &h, &packets);
     same(&rt, &fed(alloc, &lines, 9)?, &(true, 2, 1, 3, 1), 0);
