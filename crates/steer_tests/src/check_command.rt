@@ -3,14 +3,15 @@ ghost use Rattle.std.specs.Prelude.{None};
 ghost use Rattle.outside_io.specs.Counts.{last_count};
 
 use crate::calls::{
-    Outcome, called, called_failing, comes_to, desk_of, run, same, same_bytes, sink,
+    Outcome, called, called_failing, called_over, comes_to, desk_of, get_the_usage, same,
 };
-use crate::files::{HEADER, front};
+use crate::files::{FOUR_FRAMES, HEADER, file, front};
 use crate::plans::{
-    FOUR_LINES, FOUR_STEPS, ONE_FLOW, SWEPT, capture_of, four_packets, plan_of, replayed,
+    FOUR_REPORT, FOUR_STEPS, ONE_FLOW, SWEPT, capture_of, four_packets, plan_of, replayed,
 };
-use outside_io::{Begin, Desk, Got, MemoryDesk};
+use outside_io::{Begin, Desk, Got};
 use std::alloc::Global;
+use std::process::Abort;
 use std::test::Fail;
 
 /// The row of the packet that `SWEPT` sweeps through.
@@ -32,20 +33,7 @@ const PLAIN: &[u8] =
     br#""cpus":4,"queues":[{"home":0,"mask":[1],"flows":0}],"sock":0,"apps":[2],"tx":[{"cpus":[],
         "queues":[]}]"#;
 
-/// A desk with a plan, a capture and a report, whose calls with these numbers fail.
-fn desk_with(
-    alloc: Global,
-    plan: &[u8],
-    capture: &[u8],
-    report: &[u8],
-    failing: &[u64],
-) -> Result<MemoryDesk, Fail> {
-    let mut held = Vec::new(alloc);
-    held.push((String::from_str(alloc, "p.json")?, plan.to_vec(alloc)?))?;
-    held.push((String::from_str(alloc, "a.pcap")?, capture.to_vec(alloc)?))?;
-    held.push((String::from_str(alloc, "r.txt")?, report.to_vec(alloc)?))?;
-    Ok(MemoryDesk::make(held, failing.to_vec(alloc)?))
-}
+const CHECK: [&str; 4] = ["check", "p.json", "a.pcap", "r.txt"];
 
 /// What `check` comes to with a plan of these settings and steps, the frames of these letters, and
 /// this report.
@@ -58,8 +46,13 @@ fn checked(
 ) -> Result<Outcome, Fail> {
     let plan = plan_of(alloc, settings, steps)?;
     let capture = capture_of(alloc, letters)?;
-    let desk = desk_with(alloc, &plan, &capture, report, &[])?;
-    called(alloc, &["check", "p.json", "a.pcap", "r.txt"], desk)
+    let report = report.to_vec(alloc)?;
+    let files = [
+        ("p.json", plan.as_slice()),
+        ("a.pcap", capture.as_slice()),
+        ("r.txt", report.as_slice()),
+    ];
+    called_over(alloc, &CHECK, &files, &[])
 }
 
 /// The report of that sweep with this row for its packet.
@@ -70,129 +63,150 @@ fn swept_report(alloc: Global, row: &[u8]) -> Result<Vec<u8>, Fail> {
     Ok(report)
 }
 
+/// A row for the packet of that sweep, and the verdict.
+const ROWS: [(&[u8], &[u8]); 5] = [
+    (SWEPT_ROW, b"check good\n"),
+    // The rule gives no such reason.
+    (
+        b"p 0 q 0 via reta class - want - head - tail - cpu 1 why unset at 1 app 0 in 1 place \
+inbox\n",
+        b"check bad 3\n",
+    ),
+    // There is no second place at processor 1.
+    (
+        b"p 0 q 0 via reta class - want - head - tail - cpu 1 why plain at 2 app 0 in 1 place \
+inbox\n",
+        b"check not a report\n",
+    ),
+    // A number is written in one way.
+    (
+        b"p 0 q 0 via reta class - want - head - tail - cpu 01 why plain at 1 app 0 in 1 place \
+inbox\n",
+        b"check not a report\n",
+    ),
+    (b"", b"check not a report\n"),
+];
+
+/// Settings, steps, a letter for each frame, a report, and the verdict.
+type Judged<'a> = (&'a [u8], &'a [u8], &'a [u8], &'a [u8], &'a [u8]);
+
+fn is_judged(rt: &impl Abort, alloc: Global, case: Judged<'_>, number: usize) -> Result<(), Fail> {
+    let (settings, steps, letters, report, verdict) = case;
+    let got = checked(alloc, settings, steps, letters, report)?;
+    comes_to(rt, &got, 0, verdict, b"", number);
+    Ok(())
+}
+
+fn row_is_judged(
+    rt: &impl Abort,
+    alloc: Global,
+    row: &[u8],
+    verdict: &[u8],
+    case: usize,
+) -> Result<(), Fail> {
+    let report = swept_report(alloc, row)?;
+    let judged = (
+        SWEPT,
+        b"\"sweep\"".as_slice(),
+        b"a".as_slice(),
+        report.as_slice(),
+        verdict,
+    );
+    is_judged(rt, alloc, judged, case)
+}
+
 #[test]
 fn reports_of_a_sweep_are_judged(rt: HostRuntime) -> Result<(), Fail> {
-    let alloc = rt.alloc();
-    let cases: [(&[u8], &[u8]); 5] = [
-        (SWEPT_ROW, b"check good\n"),
-        // The rule gives no such reason.
-        (
-            b"p 0 q 0 via reta class - want - head - tail - cpu 1 why unset at 1 app 0 in 1 place \
-inbox\n",
-            b"check bad 3\n",
-        ),
-        // There is no second place at processor 1.
-        (
-            b"p 0 q 0 via reta class - want - head - tail - cpu 1 why plain at 2 app 0 in 1 place \
-inbox\n",
-            b"check not a report\n",
-        ),
-        // A number is written in one way.
-        (
-            b"p 0 q 0 via reta class - want - head - tail - cpu 01 why plain at 1 app 0 in 1 place \
-inbox\n",
-            b"check not a report\n",
-        ),
-        (b"", b"check not a report\n"),
-    ];
-    for (case, (row, wanted)) in cases.into_iter().enumerate() {
-        let report = swept_report(alloc, row)?;
-        let got = checked(alloc, SWEPT, b"\"sweep\"", b"a", &report)?;
-        comes_to(&rt, &got, 0, wanted, b"", case);
+    for (case, &(row, verdict)) in ROWS.iter().enumerate() {
+        row_is_judged(&rt, rt.alloc(), row, verdict, case)?;
     }
     Ok(())
 }
 
+const OTHERS: [Judged; 4] = [
+    // Packet 3 is in a backlog.
+    (ONE_FLOW, FOUR_STEPS, b"aaaa", FOUR_REPORT, b"check bad 8\n"),
+    // The plan has commands, whatever the report is.
+    (
+        PLAIN,
+        br#""arrive","poll 0","pull 1","mask 0 2","deliver 1","retire 1","mask 0 2""#,
+        b"a",
+        b"",
+        b"check not checked\n",
+    ),
+    (PLAIN, b"\"sweep\"", b"a", b"", b"check not a report\n"),
+    (
+        PLAIN,
+        b"\"sweep\"",
+        b"a",
+        b"steer 1\n",
+        b"check not a report\n",
+    ),
+];
+
 #[test]
 fn other_reports_are_judged(rt: HostRuntime) -> Result<(), Fail> {
-    let alloc = rt.alloc();
-    let mut four = FOUR_LINES.to_vec(alloc)?;
-    four.extend_from_slice(b"end 4 of 4\n")?;
-    let cases: [(&[u8], &[u8], &[u8], &[u8], &[u8]); 4] = [
-        // Packet 3 is in a backlog.
-        (ONE_FLOW, FOUR_STEPS, b"aaaa", &four, b"check bad 8\n"),
-        // The plan has commands, whatever the report is.
-        (
-            PLAIN,
-            br#""arrive","poll 0","pull 1","mask 0 2","deliver 1","retire 1","mask 0 2""#,
-            b"a",
-            b"",
-            b"check not checked\n",
-        ),
-        (PLAIN, b"\"sweep\"", b"a", b"", b"check not a report\n"),
-        (
-            PLAIN,
-            b"\"sweep\"",
-            b"a",
-            b"steer 1\n",
-            b"check not a report\n",
-        ),
-    ];
-    for (case, (settings, steps, letters, report, wanted)) in cases.into_iter().enumerate() {
-        let got = checked(alloc, settings, steps, letters, report)?;
-        comes_to(&rt, &got, 0, wanted, b"", case);
+    for (i, case) in OTHERS.iter().enumerate() {
+        is_judged(&rt, rt.alloc(), *case, i)?;
     }
     Ok(())
+}
+
+/// Steps that are replayed, those of the plan by which the report is checked, a letter for each
+/// frame, and the verdict.
+type Replayed<'a> = (&'a [u8], &'a [u8], &'a [u8], &'a [u8]);
+
+const REPLAYS: [Replayed; 6] = [
+    (b"\"sweep\"", b"\"sweep\"", b"aaaa", b"check good\n"),
+    // The second packet has not arrived.
+    (b"\"arrive\"", b"\"arrive\"", b"aa", b"check bad 1\n"),
+    // A packet was taken, and has no choice.
+    (
+        b"\"arrive\",\"take 0\"",
+        b"\"arrive\",\"take 0\"",
+        b"a",
+        b"check bad 3\n",
+    ),
+    // A packet still has to be replied to.
+    (
+        b"\"arrive\",\"poll 0\",\"drain 1\"",
+        b"\"arrive\",\"poll 0\",\"drain 1\"",
+        b"a",
+        b"check bad 8\n",
+    ),
+    // The application replied and recorded no flow.
+    (
+        b"\"arrive\",\"poll 0\",\"drain 1\",\"reply 0\",\"sweep\"",
+        b"\"sweep\"",
+        b"a",
+        b"check bad 9\n",
+    ),
+    // A command was given that the plan does not have.
+    (
+        b"\"offline 3\",\"sweep\"",
+        b"\"sweep\"",
+        b"a",
+        b"check bad 10\n",
+    ),
+];
+
+fn replay_is_judged(
+    rt: &impl Abort,
+    alloc: Global,
+    case: Replayed<'_>,
+    number: usize,
+) -> Result<(), Fail> {
+    let (steps, others, letters, verdict) = case;
+    let replay = replayed(alloc, ONE_FLOW, steps, letters)?;
+    same(rt, &replay.status, &0, number);
+    let judged = (ONE_FLOW, others, letters, replay.out.as_slice(), verdict);
+    is_judged(rt, alloc, judged, number)
 }
 
 #[test]
 fn reports_of_replays_are_judged(rt: HostRuntime) -> Result<(), Fail> {
-    let alloc = rt.alloc();
-    let cases: [(&[u8], &[u8], &[u8], &[u8], &[u8]); 6] = [
-        // Steps that are replayed, and those of the plan by which the report is checked.
-        (
-            ONE_FLOW,
-            b"\"sweep\"",
-            b"\"sweep\"",
-            b"aaaa",
-            b"check good\n",
-        ),
-        // The second packet has not arrived.
-        (
-            ONE_FLOW,
-            b"\"arrive\"",
-            b"\"arrive\"",
-            b"aa",
-            b"check bad 1\n",
-        ),
-        // A packet was taken, and has no choice.
-        (
-            ONE_FLOW,
-            b"\"arrive\",\"take 0\"",
-            b"\"arrive\",\"take 0\"",
-            b"a",
-            b"check bad 3\n",
-        ),
-        // A packet still has to be replied to.
-        (
-            ONE_FLOW,
-            b"\"arrive\",\"poll 0\",\"drain 1\"",
-            b"\"arrive\",\"poll 0\",\"drain 1\"",
-            b"a",
-            b"check bad 8\n",
-        ),
-        // The application replied and recorded no flow.
-        (
-            ONE_FLOW,
-            b"\"arrive\",\"poll 0\",\"drain 1\",\"reply 0\",\"sweep\"",
-            b"\"sweep\"",
-            b"a",
-            b"check bad 9\n",
-        ),
-        // A command was given that the plan does not have.
-        (
-            ONE_FLOW,
-            b"\"offline 3\",\"sweep\"",
-            b"\"sweep\"",
-            b"a",
-            b"check bad 10\n",
-        ),
-    ];
-    for (case, (settings, steps, others, letters, wanted)) in cases.into_iter().enumerate() {
-        let replay = replayed(alloc, settings, steps, letters)?;
-        same(&rt, &replay.status, &0, case);
-        let got = checked(alloc, settings, others, letters, &replay.out)?;
-        comes_to(&rt, &got, 0, wanted, b"", case);
+    for (i, case) in REPLAYS.iter().enumerate() {
+        replay_is_judged(&rt, rt.alloc(), *case, i)?;
     }
     Ok(())
 }
@@ -200,56 +214,46 @@ fn reports_of_replays_are_judged(rt: HostRuntime) -> Result<(), Fail> {
 /// What `check` comes to on the files of four packets and this capture, where calls of the desk and
 /// writes fail.
 fn failing(alloc: Global, capture: &[u8], reads: &[u64], writes: &[u64]) -> Result<Outcome, Fail> {
-    let (plan, _) = four_packets(alloc)?;
-    let desk = desk_with(alloc, &plan, capture, b"", reads)?;
-    called_failing(
-        alloc,
-        &["check", "p.json", "a.pcap", "r.txt"],
-        desk,
-        writes,
-        &[],
-    )
+    let plan = plan_of(alloc, ONE_FLOW, FOUR_STEPS)?;
+    let capture = capture.to_vec(alloc)?;
+    let report = Vec::new(alloc);
+    let files = [
+        ("p.json", plan.as_slice()),
+        ("a.pcap", capture.as_slice()),
+        ("r.txt", report.as_slice()),
+    ];
+    let mut desk = desk_of(alloc, &files, reads)?;
+    called_failing(alloc, &CHECK, &mut desk, writes, &[])
 }
+
+fn read_fails(rt: &impl Abort, alloc: Global, capture: &[u8], call: u64) -> Result<(), Fail> {
+    let got = failing(alloc, capture, &[call], &[])?;
+    comes_to(rt, &got, 5, b"", b"read fault\n", call as usize);
+    Ok(())
+}
+
+const WORDS: [&[&str]; 4] = [
+    &["check", "p.json", "a.pcap"],
+    &["check", "p.json", "a.pcap", ""],
+    &["check", "p.json", "-a", "r.txt"],
+    &["check", "p.json", "a.pcap", "r.txt", "r.txt"],
+];
 
 #[test]
 fn each_file_has_its_status(rt: HostRuntime) -> Result<(), Fail> {
     let alloc = rt.alloc();
-    let (_, capture) = four_packets(alloc)?;
+    let capture = file(alloc, &FOUR_FRAMES)?;
     // The desk is asked for the plan in its calls 1 to 3, for the capture in 4 to 6, and for the
     // report in 7 and 8.
-    let cases: [(&[u8], &[u64], &[u64], u8, &[u8]); 6] = [
-        (&capture, &[1], &[], 5, b"read fault\n"),
-        (&capture, &[4], &[], 5, b"read fault\n"),
-        (&capture, &[7], &[], 5, b"read fault\n"),
-        (&capture, &[8], &[], 5, b"read fault\n"),
-        (
-            front(&HEADER, 23),
-            &[7],
-            &[],
-            4,
-            b"capture: short header 23\n",
-        ),
-        (&capture, &[], &[1], 6, b"write fault\n"),
-    ];
-    for (case, (capture, reads, writes, status, line)) in cases.into_iter().enumerate() {
-        let got = failing(alloc, capture, reads, writes)?;
-        comes_to(&rt, &got, status, b"", line, case);
-    }
-    let words: [&[&str]; 4] = [
-        &["check", "p.json", "a.pcap"],
-        &["check", "p.json", "a.pcap", ""],
-        &["check", "p.json", "-a", "r.txt"],
-        &["check", "p.json", "a.pcap", "r.txt", "r.txt"],
-    ];
-    for (case, texts) in words.into_iter().enumerate() {
-        same(
-            &rt,
-            &called(alloc, texts, desk_of(alloc, &[], &[])?)?.status,
-            &2,
-            case,
-        );
-    }
-    Ok(())
+    read_fails(&rt, alloc, &capture, 1)?;
+    read_fails(&rt, alloc, &capture, 4)?;
+    read_fails(&rt, alloc, &capture, 7)?;
+    read_fails(&rt, alloc, &capture, 8)?;
+    let got = failing(alloc, front(&HEADER, 23), &[7], &[])?;
+    comes_to(&rt, &got, 4, b"", b"capture: short header 23\n", 4);
+    let got = failing(alloc, &capture, &[], &[1])?;
+    comes_to(&rt, &got, 6, b"", b"write fault\n", 5);
+    get_the_usage(&rt, alloc, &WORDS)
 }
 
 // A file of a call.
@@ -321,8 +325,7 @@ impl Desk for LongReport {
 
 #[test]
 fn a_report_that_is_too_long_is_refused(rt: HostRuntime) -> Result<(), Fail> {
-    let alloc = rt.alloc();
-    let (plan, capture) = four_packets(alloc)?;
+    let (plan, capture) = four_packets(rt.alloc())?;
     let mut desk = LongReport {
         plan,
         capture,
@@ -330,19 +333,7 @@ fn a_report_that_is_too_long_is_refused(rt: HostRuntime) -> Result<(), Fail> {
         asked: Asked::Plan,
         at: 0,
     };
-    let mut out = sink(alloc, &[])?;
-    let mut err = sink(alloc, &[])?;
-    let words = ["check", "p.json", "a.pcap", "r.txt"];
-    let status = run(
-        alloc,
-        &words,
-        &mut desk,
-        &mut out,
-        &mut err,
-        Vec::new(alloc),
-    )?;
-    same(&rt, &status, &8, 0);
-    same_bytes(&rt, out.bytes(), b"", 0);
-    same_bytes(&rt, err.bytes(), b"report too long\n", 0);
+    let got = called(rt.alloc(), &CHECK, &mut desk)?;
+    comes_to(&rt, &got, 8, b"", b"report too long\n", 0);
     Ok(())
 }

@@ -1,5 +1,5 @@
 //! Frames and files of the tests.
-use std::alloc::Global;
+use std::alloc::{AllocError, Global};
 use std::test::Fail;
 
 /// The little-endian header with microseconds.
@@ -68,6 +68,37 @@ pub const ARP: [u8; 60] = [
     0, 0, 0, 0, 0, 0, 0, 0, 0, 0, 0, 0, 0, 0, 0, 0, 0, 0, 0, 0, 0, 0, 0, 0, 0, 0, 0, 0,
 ];
 
+/// Four frames of the first flow.
+pub const FOUR_FRAMES: [&[u8]; 4] = [&FRAME_A, &FRAME_A, &FRAME_A, &FRAME_A];
+
+/// The header of the record of a frame of 54 bytes.
+pub const RECORD_54: [u8; 16] = [0, 0, 0, 0, 0, 0, 0, 0, 54, 0, 0, 0, 54, 0, 0, 0];
+
+/// Of one of 60 bytes.
+pub const RECORD_60: [u8; 16] = [0, 0, 0, 0, 0, 0, 0, 0, 60, 0, 0, 0, 60, 0, 0, 0];
+
+/// Of one of 82 bytes.
+pub const RECORD_82: [u8; 16] = [0, 0, 0, 0, 0, 0, 0, 0, 82, 0, 0, 0, 82, 0, 0, 0];
+
+/// Of one of 54 bytes in a big-endian file.
+pub const BIG_RECORD: [u8; 16] = [0, 0, 0, 0, 0, 0, 0, 0, 0, 0, 0, 54, 0, 0, 0, 54];
+
+/// What tcpdump writes before a frame of 74 bytes: a header with its snap length, and that of the
+/// record with a time.
+pub const TCPDUMP: [u8; 40] = [
+    0xd4, 0xc3, 0xb2, 0xa1, 2, 0, 4, 0, 0, 0, 0, 0, 0, 0, 0, 0, 0, 0, 4, 0, 1, 0, 0, 0, 0x1c, 0x5e,
+    0x2a, 0x67, 0x4f, 0xa3, 8, 0, 74, 0, 0, 0, 74, 0, 0, 0,
+];
+
+/// The pieces one after another.
+pub fn joined(alloc: Global, pieces: &[&[u8]]) -> Result<Vec<u8>, AllocError> {
+    let mut bytes = Vec::new(alloc);
+    for piece in pieces {
+        bytes.extend_from_slice(piece)?;
+    }
+    Ok(bytes)
+}
+
 /// A little-endian file with these frames.
 pub fn file(alloc: Global, frames: &[&[u8]]) -> Result<Vec<u8>, Fail> {
     let mut bytes = HEADER.to_vec(alloc)?;
@@ -78,26 +109,6 @@ pub fn file(alloc: Global, frames: &[&[u8]]) -> Result<Vec<u8>, Fail> {
         bytes.extend_from_slice(&len)?;
         bytes.extend_from_slice(frame)?;
     }
-    Ok(bytes)
-}
-
-/// A big-endian file with this frame of 54 bytes.
-pub fn big_file(alloc: Global, frame: &[u8; 54]) -> Result<Vec<u8>, Fail> {
-    let mut bytes = BIG_HEADER.to_vec(alloc)?;
-    bytes.extend_from_slice(&[0, 0, 0, 0, 0, 0, 0, 0, 0, 0, 0, 54, 0, 0, 0, 54])?;
-    bytes.extend_from_slice(frame)?;
-    Ok(bytes)
-}
-
-/// A file as tcpdump writes it: with its snap length, a time, and this frame of 74 bytes.
-pub fn tcpdump_file(alloc: Global, frame: &[u8; 74]) -> Result<Vec<u8>, Fail> {
-    let mut bytes = Vec::new(alloc);
-    bytes.extend_from_slice(&HEADER[..16])?;
-    bytes.extend_from_slice(&[0, 0, 4, 0, 1, 0, 0, 0])?;
-    bytes.extend_from_slice(&[
-        0x1c, 0x5e, 0x2a, 0x67, 0x4f, 0xa3, 8, 0, 74, 0, 0, 0, 74, 0, 0, 0,
-    ])?;
-    bytes.extend_from_slice(frame)?;
     Ok(bytes)
 }
 

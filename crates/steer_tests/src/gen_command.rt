@@ -1,5 +1,5 @@
 //! The command `gen`.
-use crate::calls::{called, comes_to, desk_of, same, same_bytes};
+use crate::calls::{called_over, comes_to, get_the_usage, same, same_bytes};
 use std::alloc::Global;
 use std::process::Abort;
 use std::test::Fail;
@@ -15,57 +15,60 @@ fn number_after(line: &str, word: &str) -> Option<u64> {
     None
 }
 
+/// Words, and the text that they come to.
+const SMALL: [(&[&str], &[u8]); 3] = [
+    (
+        &["gen", "1", "0", "1"],
+        b"gen 1 packets 0 flows 0\ndelivered 0 dropped 0 moved 0 replies 0\n",
+    ),
+    (
+        &["gen", "7", "1", "1"],
+        b"gen 7 packets 1 flows 1\ndelivered 1 dropped 0 moved 1 replies 1\n",
+    ),
+    (
+        &["gen", "007", "01", "1"],
+        b"gen 7 packets 1 flows 1\ndelivered 1 dropped 0 moved 1 replies 1\n",
+    ),
+];
+
 #[test]
 fn small_input_is_replayed(rt: HostRuntime) -> Result<(), Fail> {
-    let alloc = rt.alloc();
-    let cases: [(&[&str], &[u8]); 3] = [
-        (
-            &["gen", "1", "0", "1"],
-            b"gen 1 packets 0 flows 0\ndelivered 0 dropped 0 moved 0 replies 0\n",
-        ),
-        (
-            &["gen", "7", "1", "1"],
-            b"gen 7 packets 1 flows 1\ndelivered 1 dropped 0 moved 1 replies 1\n",
-        ),
-        (
-            &["gen", "007", "01", "1"],
-            b"gen 7 packets 1 flows 1\ndelivered 1 dropped 0 moved 1 replies 1\n",
-        ),
-    ];
-    for (case, (texts, wanted)) in cases.into_iter().enumerate() {
-        let got = called(alloc, texts, desk_of(alloc, &[], &[])?)?;
-        comes_to(&rt, &got, 0, wanted, b"", case);
+    for (case, &(texts, text)) in SMALL.iter().enumerate() {
+        is_generated(&rt, rt.alloc(), texts, text, case)?;
     }
     Ok(())
 }
 
+fn is_generated(
+    rt: &impl Abort,
+    alloc: Global,
+    texts: &[&str],
+    text: &[u8],
+    case: usize,
+) -> Result<(), Fail> {
+    let got = called_over(alloc, texts, &[], &[])?;
+    comes_to(rt, &got, 0, text, b"", case);
+    Ok(())
+}
+
+const OUT_OF_RANGE: [&[&str]; 7] = [
+    &["gen"],
+    &["gen", "1", "1"],
+    &["gen", "18446744073709551616", "1", "1"],
+    &["gen", "1", "262145", "1"],
+    &["gen", "1", "1", "0"],
+    &["gen", "1", "1", "65537"],
+    &["gen", "1", "1", "1", "1"],
+];
+
 #[test]
 fn numbers_out_of_range_get_the_usage(rt: HostRuntime) -> Result<(), Fail> {
-    let alloc = rt.alloc();
-    let cases: [&[&str]; 7] = [
-        &["gen"],
-        &["gen", "1", "1"],
-        &["gen", "18446744073709551616", "1", "1"],
-        &["gen", "1", "262145", "1"],
-        &["gen", "1", "1", "0"],
-        &["gen", "1", "1", "65537"],
-        &["gen", "1", "1", "1", "1"],
-    ];
-    for (case, texts) in cases.into_iter().enumerate() {
-        let got = called(alloc, texts, desk_of(alloc, &[], &[])?)?;
-        same(&rt, &got.status, &2, case);
-        same_bytes(&rt, &got.out, b"", case);
-    }
-    Ok(())
+    get_the_usage(&rt, rt.alloc(), &OUT_OF_RANGE)
 }
 
 // The two lines of `gen 7 131072 512`.
 fn large(alloc: Global) -> Result<Vec<u8>, Fail> {
-    let got = called(
-        alloc,
-        &["gen", "7", "131072", "512"],
-        desk_of(alloc, &[], &[])?,
-    )?;
+    let got = called_over(alloc, &["gen", "7", "131072", "512"], &[], &[])?;
     Ok(got.out)
 }
 

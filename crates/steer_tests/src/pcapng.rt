@@ -1,9 +1,10 @@
 //! Captures in the pcapng format: the command `hash`, and a replay.
-use crate::calls::{Outcome, called, comes_to, desk_of, same, same_bytes};
-use crate::files::{FRAME_A, front};
-use crate::plans::{FOUR_LINES, FOUR_STEPS, ONE_FLOW, plan_of};
+use crate::calls::{Outcome, called_over, comes_to, same, same_bytes};
+use crate::files::{FRAME_A, front, joined};
+use crate::plans::{FOUR_REPORT, FOUR_STEPS, ONE_FLOW, plan_of};
 use pcapng_reader::{put_enhanced, put_section};
 use std::alloc::Global;
+use std::process::Abort;
 use std::test::Fail;
 
 const LINE_A: &[u8] =
@@ -24,13 +25,11 @@ const PACKET: [u8; 28] = [
 /// Its end: the padding and the length again.
 const TAIL: [u8; 6] = [0, 0, 0x58, 0, 0, 0];
 
+const ONE: [&[u8]; 4] = [&SECTION, &PACKET, &FRAME_A, &TAIL];
+
 /// The file of 136 bytes with the first frame.
 fn one(alloc: Global) -> Result<Vec<u8>, Fail> {
-    let mut bytes = SECTION.to_vec(alloc)?;
-    bytes.extend_from_slice(&PACKET)?;
-    bytes.extend_from_slice(&FRAME_A)?;
-    bytes.extend_from_slice(&TAIL)?;
-    Ok(bytes)
+    Ok(joined(alloc, &ONE)?)
 }
 
 /// That file with another byte at this place.
@@ -43,47 +42,74 @@ fn with(alloc: Global, place: usize, byte: u8) -> Result<Vec<u8>, Fail> {
 }
 
 fn hashed(alloc: Global, bytes: &[u8]) -> Result<Outcome, Fail> {
-    let desk = desk_of(alloc, &[("a.pcapng", bytes)], &[])?;
-    called(alloc, &["hash", "a.pcapng"], desk)
+    called_over(alloc, &["hash", "a.pcapng"], &[("a.pcapng", bytes)], &[])
+}
+
+/// Asserts what the hashes of a file come to.
+fn comes_to_text(
+    rt: &impl Abort,
+    alloc: Global,
+    bytes: &[u8],
+    text: &[u8],
+    case: usize,
+) -> Result<(), Fail> {
+    let got = hashed(alloc, bytes)?;
+    comes_to(rt, &got, 0, text, b"", case);
+    Ok(())
+}
+
+/// A file that is written with so many packets of the first frame.
+fn written(alloc: Global, count: u32) -> Result<Vec<u8>, Fail> {
+    let mut file = Vec::new(alloc);
+    put_section(&mut file)?;
+    for _ in 0..count {
+        put_enhanced(&mut file, &FRAME_A)?;
+    }
+    Ok(file)
 }
 
 #[test]
 fn pcapng_captures_are_hashed(rt: HostRuntime) -> Result<(), Fail> {
     let alloc = rt.alloc();
     let one = one(alloc)?;
-    let mut written = Vec::new(alloc);
-    put_section(&mut written)?;
-    put_enhanced(&mut written, &FRAME_A)?;
-    let cases: [(&[u8], &[u8]); 4] = [
-        (&one, LINE_A),
-        (front(&one, 135), b"packets 0 cut 87\n"),
-        (front(&one, 4), b"packets 0 cut 4\n"),
-        (&written, LINE_A),
-    ];
-    for (case, (bytes, wanted)) in cases.into_iter().enumerate() {
-        let got = hashed(alloc, bytes)?;
-        comes_to(&rt, &got, 0, wanted, b"", case);
+    comes_to_text(&rt, alloc, &one, LINE_A, 0)?;
+    comes_to_text(&rt, alloc, front(&one, 135), b"packets 0 cut 87\n", 1)?;
+    comes_to_text(&rt, alloc, front(&one, 4), b"packets 0 cut 4\n", 2)?;
+    let written = written(alloc, 1)?;
+    comes_to_text(&rt, alloc, &written, LINE_A, 3)
+}
+
+/// A place, the byte that is put there, and the line that names the fault.
+const FAULTS: [(usize, u8, &[u8]); 8] = [
+    (132, 0x59, b"capture: bad tail 2 89\n"),
+    (8, 0x4e, b"capture: bad order 1a2b3c4e\n"),
+    (4, 0x1d, b"capture: bad block 0 29\n"),
+    (12, 2, b"capture: bad major 2\n"),
+    (56, 1, b"capture: bad interface 2 1\n"),
+    (36, 0x71, b"capture: bad ng link 2 113\n"),
+    (71, 1, b"capture: packet 0 too long 16777270\n"),
+    (68, 0x3d, b"capture: bad block 2 88\n"),
+];
+
+#[test]
+fn faults_of_pcapng_captures_are_named(rt: HostRuntime) -> Result<(), Fail> {
+    for (case, &(place, byte, line)) in FAULTS.iter().enumerate() {
+        fault_is_named(&rt, rt.alloc(), place, byte, line, case)?;
     }
     Ok(())
 }
 
-#[test]
-fn faults_of_pcapng_captures_are_named(rt: HostRuntime) -> Result<(), Fail> {
-    let alloc = rt.alloc();
-    let cases: [(usize, u8, &[u8]); 8] = [
-        (132, 0x59, b"capture: bad tail 2 89\n"),
-        (8, 0x4e, b"capture: bad order 1a2b3c4e\n"),
-        (4, 0x1d, b"capture: bad block 0 29\n"),
-        (12, 2, b"capture: bad major 2\n"),
-        (56, 1, b"capture: bad interface 2 1\n"),
-        (36, 0x71, b"capture: bad ng link 2 113\n"),
-        (71, 1, b"capture: packet 0 too long 16777270\n"),
-        (68, 0x3d, b"capture: bad block 2 88\n"),
-    ];
-    for (case, (place, byte, wanted)) in cases.into_iter().enumerate() {
-        let got = hashed(alloc, &with(alloc, place, byte)?)?;
-        comes_to(&rt, &got, 4, b"", wanted, case);
-    }
+fn fault_is_named(
+    rt: &impl Abort,
+    alloc: Global,
+    place: usize,
+    byte: u8,
+    line: &[u8],
+    case: usize,
+) -> Result<(), Fail> {
+    let bytes = with(alloc, place, byte)?;
+    let got = hashed(alloc, &bytes)?;
+    comes_to(rt, &got, 4, b"", line, case);
     Ok(())
 }
 
@@ -91,16 +117,13 @@ fn faults_of_pcapng_captures_are_named(rt: HostRuntime) -> Result<(), Fail> {
 fn pcapng_captures_are_replayed(rt: HostRuntime) -> Result<(), Fail> {
     let alloc = rt.alloc();
     let plan = plan_of(alloc, ONE_FLOW, FOUR_STEPS)?;
-    let mut capture = Vec::new(alloc);
-    put_section(&mut capture)?;
-    for _ in 0..4 {
-        put_enhanced(&mut capture, &FRAME_A)?;
-    }
-    let desk = desk_of(alloc, &[("p.json", &plan), ("a.pcapng", &capture)], &[])?;
-    let got = called(alloc, &["replay", "p.json", "a.pcapng"], desk)?;
-    let mut text = FOUR_LINES.to_vec(alloc)?;
-    text.extend_from_slice(b"end 4 of 4\n")?;
+    let capture = written(alloc, 4)?;
+    let files = [
+        ("p.json", plan.as_slice()),
+        ("a.pcapng", capture.as_slice()),
+    ];
+    let got = called_over(alloc, &["replay", "p.json", "a.pcapng"], &files, &[])?;
     same(&rt, &got.status, &0, 0);
-    same_bytes(&rt, &got.out, &text, 0);
+    same_bytes(&rt, &got.out, FOUR_REPORT, 0);
     Ok(())
 }

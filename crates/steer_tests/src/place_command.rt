@@ -1,7 +1,8 @@
 //! The command `place` on files in memory.
-use crate::calls::{Outcome, called, comes_to, desk_of, same};
-use crate::files::{ARP, FRAME_A, FRAME_B, HEADER, file, front};
+use crate::calls::{Outcome, called_over, comes_to, same};
+use crate::files::{ARP, FRAME_A, FRAME_B, HEADER, RECORD_54, RECORD_60, file, front, joined};
 use std::alloc::Global;
+use std::process::Abort;
 use std::test::Fail;
 use steer_top::both_directions_have_one_queue;
 use tunnel_dissector::put_vxlan;
@@ -28,135 +29,181 @@ const SELF: [u8; 54] = [
     0, 1, 10, 0, 0, 1, 0, 7, 0, 7, 0, 0, 0, 0, 0, 0, 0, 0, 0x50, 0, 0, 0, 0, 0, 0, 0,
 ];
 
+const PLACE: [&str; 3] = ["place", "r.json", "a.pcap"];
+
 /// What `place` comes to with these rules and this capture.
 fn placed(alloc: Global, rules: &[u8], capture: &[u8]) -> Result<Outcome, Fail> {
-    let desk = desk_of(alloc, &[("r.json", rules), ("a.pcap", capture)], &[])?;
-    called(alloc, &["place", "r.json", "a.pcap"], desk)
+    called_over(
+        alloc,
+        &PLACE,
+        &[("r.json", rules), ("a.pcap", capture)],
+        &[],
+    )
 }
+
+/// Rules, the pieces of a capture, and the text that they come to.
+type Placed<'a> = (&'a [u8], &'a [&'a [u8]], &'a [u8]);
+
+const THREE: [&[u8]; 7] = [
+    &HEADER, &RECORD_54, &FRAME_A, &RECORD_54, &FRAME_B, &RECORD_60, &ARP,
+];
+
+const PLACED: [Placed; 3] = [
+    (
+        RULES,
+        &THREE,
+        b"packet 0 tcp4 420995bb a18e6450 2794 1766 hash 51ccc178 entry 120 queue 3 rule 0 \
+            depth 0\n\
+packet 1 tcp4 c75c6f02 41458c53 14230 4739 hash c626b0ea entry 106 queue 1 rule 1 depth 0\n\
+packet 2 none hash - entry - queue 0 rule - depth 0\n\
+packets 3\n",
+    ),
+    (
+        SYMMETRIC,
+        &[&HEADER, &RECORD_54, &SELF],
+        b"packet 0 tcp4 0a000001 0a000001 7 7 hash 00000000 entry 0 queue 0 rule - depth 0\n\
+packets 1\n",
+    ),
+    (
+        SYMMETRIC,
+        &[&HEADER, &RECORD_54, &FRAME_A, &RECORD_54, &SWAPPED_A],
+        b"packet 0 tcp4 420995bb a18e6450 2794 1766 hash ac2b58ca entry 74 queue 2 rule - \
+            depth 0\n\
+packet 1 tcp4 a18e6450 420995bb 1766 2794 hash ac2b58ca entry 74 queue 2 rule - depth 0\n\
+packets 2\n",
+    ),
+];
+
+/// Asserts what this capture comes to by these rules.
+fn comes_to_text(
+    rt: &impl Abort,
+    alloc: Global,
+    rules: &[u8],
+    capture: &[u8],
+    text: &[u8],
+    case: usize,
+) -> Result<(), Fail> {
+    let got = placed(alloc, rules, capture)?;
+    comes_to(rt, &got, 0, text, b"", case);
+    Ok(())
+}
+
+fn is_placed(rt: &impl Abort, alloc: Global, case: Placed<'_>, number: usize) -> Result<(), Fail> {
+    let (rules, pieces, text) = case;
+    let capture = joined(alloc, pieces)?;
+    comes_to_text(rt, alloc, rules, &capture, text, number)
+}
+
+fn are_placed(rt: &impl Abort, alloc: Global, cases: &[Placed<'_>]) -> Result<(), Fail> {
+    for (i, case) in cases.iter().enumerate() {
+        is_placed(rt, alloc, *case, i)?;
+    }
+    Ok(())
+}
+
+/// A capture of the first frame in a tunnel.
+fn tunneled(alloc: Global) -> Result<Vec<u8>, Fail> {
+    let mut tunnel = Vec::new(alloc);
+    put_vxlan(&mut tunnel, 0x0a00_0001, 0x0a00_0002, 5, &FRAME_A)?;
+    file(alloc, &[&tunnel])
+}
+
+const IN_TUNNEL: &[u8] =
+    b"packet 0 tcp4 420995bb a18e6450 2794 1766 hash 51ccc178 entry 120 queue 0 rule - \
+        depth 1\n\
+packets 1\n";
+
+const CUT: &[u8] =
+    b"packet 0 tcp4 420995bb a18e6450 2794 1766 hash 51ccc178 entry 120 queue 0 rule - \
+        depth 0\n\
+packets 1 cut 6\n";
 
 #[test]
 fn packets_are_placed(rt: HostRuntime) -> Result<(), Fail> {
     both_directions_have_one_queue();
     let alloc = rt.alloc();
-    let mut tunnel = Vec::new(alloc);
-    put_vxlan(&mut tunnel, 0x0a00_0001, 0x0a00_0002, 5, &FRAME_A)?;
-    let three = file(alloc, &[&FRAME_A, &FRAME_B, &ARP])?;
-    let both = file(alloc, &[&FRAME_A, &SWAPPED_A])?;
-    let to_itself = file(alloc, &[&SELF])?;
-    let tunnel = file(alloc, &[&tunnel])?;
-    let cases: [(&[u8], &[u8], &[u8]); 5] = [
-        (
-            RULES,
-            &three,
-            b"packet 0 tcp4 420995bb a18e6450 2794 1766 hash 51ccc178 entry 120 queue 3 rule 0 \
-                depth 0\n\
-packet 1 tcp4 c75c6f02 41458c53 14230 4739 hash c626b0ea entry 106 queue 1 rule 1 depth 0\n\
-packet 2 none hash - entry - queue 0 rule - depth 0\n\
-packets 3\n",
-        ),
-        (
-            SYMMETRIC,
-            &to_itself,
-            b"packet 0 tcp4 0a000001 0a000001 7 7 hash 00000000 entry 0 queue 0 rule - depth 0\n\
-packets 1\n",
-        ),
-        (
-            SYMMETRIC,
-            &both,
-            b"packet 0 tcp4 420995bb a18e6450 2794 1766 hash ac2b58ca entry 74 queue 2 rule - \
-                depth 0\n\
-packet 1 tcp4 a18e6450 420995bb 1766 2794 hash ac2b58ca entry 74 queue 2 rule - depth 0\n\
-packets 2\n",
-        ),
-        (
-            INNER,
-            &tunnel,
-            b"packet 0 tcp4 420995bb a18e6450 2794 1766 hash 51ccc178 entry 120 queue 0 rule - \
-                depth 1\n\
-packets 1\n",
-        ),
-        (
-            INNER,
-            front(&three, 100),
-            b"packet 0 tcp4 420995bb a18e6450 2794 1766 hash 51ccc178 entry 120 queue 0 rule - \
-                depth 0\n\
-packets 1 cut 6\n",
-        ),
-    ];
-    for (case, (rules, capture, wanted)) in cases.into_iter().enumerate() {
-        let got = placed(alloc, rules, capture)?;
-        comes_to(&rt, &got, 0, wanted, b"", case);
+    are_placed(&rt, alloc, &PLACED)?;
+    let tunnel = tunneled(alloc)?;
+    comes_to_text(&rt, alloc, INNER, &tunnel, IN_TUNNEL, 3)?;
+    let three = joined(alloc, &THREE)?;
+    comes_to_text(&rt, alloc, INNER, front(&three, 100), CUT, 4)
+}
+
+/// Rules, and the line that names their fault.
+const FAULTS: [(&[u8], &[u8]); 7] = [
+    (b"{", b"rules: not json\n"),
+    (b"7", b"rules: wrong kind \n"),
+    (b"{}", b"rules: missing queues\n"),
+    (b"{\"queues\":17,\"rules\":[]}", b"rules: range queues 17\n"),
+    (
+        b"{\"queues\":1,\"rules\":[],\"zeal\":1}",
+        b"rules: unknown key zeal\n",
+    ),
+    (
+        b"{\"queues\":4,\"rules\":[{\"kind\":\"ip4\",\"src\":\"0a\",\"queue\":1}]}",
+        b"rules: wrong kind rules/0/src\n",
+    ),
+    (
+        b"{\"queues\":4,\"rules\":[{\"kind\":\"ip4\",\"queue\":4}]}",
+        b"rules: range rules/0/queue 4\n",
+    ),
+];
+
+#[test]
+fn what_is_no_rules_is_named(rt: HostRuntime) -> Result<(), Fail> {
+    for (case, &(rules, line)) in FAULTS.iter().enumerate() {
+        are_no_rules(&rt, rt.alloc(), rules, line, case)?;
     }
     Ok(())
 }
 
-#[test]
-fn what_is_no_rules_is_named(rt: HostRuntime) -> Result<(), Fail> {
-    let alloc = rt.alloc();
-    let cases: [(&[u8], &[u8]); 7] = [
-        (b"{", b"rules: not json\n"),
-        (b"7", b"rules: wrong kind \n"),
-        (b"{}", b"rules: missing queues\n"),
-        (b"{\"queues\":17,\"rules\":[]}", b"rules: range queues 17\n"),
-        (
-            b"{\"queues\":1,\"rules\":[],\"zeal\":1}",
-            b"rules: unknown key zeal\n",
-        ),
-        (
-            b"{\"queues\":4,\"rules\":[{\"kind\":\"ip4\",\"src\":\"0a\",\"queue\":1}]}",
-            b"rules: wrong kind rules/0/src\n",
-        ),
-        (
-            b"{\"queues\":4,\"rules\":[{\"kind\":\"ip4\",\"queue\":4}]}",
-            b"rules: range rules/0/queue 4\n",
-        ),
-    ];
-    // The capture is missing each time: the rules are refused before it is asked for.
-    for (case, (rules, wanted)) in cases.into_iter().enumerate() {
-        let desk = desk_of(alloc, &[("r.json", rules)], &[])?;
-        let got = called(alloc, &["place", "r.json", "a.pcap"], desk)?;
-        comes_to(&rt, &got, 3, b"", wanted, case);
-    }
+// The capture is missing each time: the rules are refused before it is asked for.
+fn are_no_rules(
+    rt: &impl Abort,
+    alloc: Global,
+    rules: &[u8],
+    line: &[u8],
+    case: usize,
+) -> Result<(), Fail> {
+    let got = called_over(alloc, &PLACE, &[("r.json", rules)], &[])?;
+    comes_to(rt, &got, 3, b"", line, case);
     Ok(())
 }
+
+const WORDS: [&[&str]; 4] = [
+    &["place"],
+    &["place", "r.json"],
+    &["place", "r.json", "-a"],
+    &["place", "r.json", "a.pcap", "a.pcap"],
+];
+
+const ONE: [&[u8]; 3] = [&HEADER, &RECORD_54, &FRAME_A];
 
 #[test]
 fn each_file_has_its_status(rt: HostRuntime) -> Result<(), Fail> {
     let alloc = rt.alloc();
+    let one = joined(alloc, &ONE)?;
     let long = vec![in alloc; b' '; 16_777_217]?;
-    let one = file(alloc, &[&FRAME_A])?;
-    let missing = called(
-        alloc,
-        &["place", "r.json", "a.pcap"],
-        desk_of(alloc, &[("r.json", RULES)], &[])?,
-    )?;
-    let unread = called(
-        alloc,
-        &["place", "r.json", "a.pcap"],
-        desk_of(alloc, &[("r.json", RULES), ("a.pcap", &one)], &[2])?,
-    )?;
-    let cases: [(Outcome, u8, &[u8]); 4] = [
-        (placed(alloc, &long, &one)?, 8, b"rules too long\n"),
-        (
-            placed(alloc, RULES, &HEADER[..23])?,
-            4,
-            b"capture: short header 23\n",
-        ),
-        (missing, 5, b"read fault\n"),
-        (unread, 5, b"read fault\n"),
-    ];
-    for (case, (got, status, line)) in cases.into_iter().enumerate() {
-        comes_to(&rt, &got, status, b"", line, case);
-    }
-    let words: [&[&str]; 4] = [
-        &["place"],
-        &["place", "r.json"],
-        &["place", "r.json", "-a"],
-        &["place", "r.json", "a.pcap", "a.pcap"],
-    ];
-    for (case, texts) in words.into_iter().enumerate() {
-        let desk = desk_of(alloc, &[("r.json", RULES), ("a.pcap", &one)], &[])?;
-        same(&rt, &called(alloc, texts, desk)?.status, &2, case);
+    let got = placed(alloc, &long, &one)?;
+    comes_to(&rt, &got, 8, b"", b"rules too long\n", 0);
+    let got = placed(alloc, RULES, front(&HEADER, 23))?;
+    comes_to(&rt, &got, 4, b"", b"capture: short header 23\n", 1);
+    let got = called_over(alloc, &PLACE, &[("r.json", RULES)], &[])?;
+    comes_to(&rt, &got, 5, b"", b"read fault\n", 2);
+    let files = [("r.json", RULES), ("a.pcap", one.as_slice())];
+    let got = called_over(alloc, &PLACE, &files, &[2])?;
+    comes_to(&rt, &got, 5, b"", b"read fault\n", 3);
+    words_get_the_usage(&rt, alloc, &files)
+}
+
+fn words_get_the_usage(
+    rt: &impl Abort,
+    alloc: Global,
+    files: &[(&str, &[u8])],
+) -> Result<(), Fail> {
+    for (case, &texts) in WORDS.iter().enumerate() {
+        let got = called_over(alloc, texts, files, &[])?;
+        same(rt, &got.status, &2, case);
     }
     Ok(())
 }

@@ -1,6 +1,6 @@
 //! Plans of the tests, and their replays.
-use crate::calls::{Outcome, called, comes_to, desk_of, same, same_bytes};
-use crate::files::{ARP, FRAME_A, FRAME_B, file};
+use crate::calls::{Outcome, called_over, comes_to, same, same_bytes};
+use crate::files::{ARP, FOUR_FRAMES, FRAME_A, FRAME_B, file};
 use std::alloc::Global;
 use std::process::Abort;
 use std::test::Fail;
@@ -20,8 +20,8 @@ pub const FOUR_STEPS: &[u8] =
     br#""arrive","poll 0","record 0","arrive","poll 0","pull 1","deliver 1","arrive","poll 0",
         "drain 1","arrive","poll 0""#;
 
-/// The report of these steps on four packets of one flow, up to its last line.
-pub const FOUR_LINES: &[u8] = b"steer 1
+/// The report of these steps on four packets of one flow.
+pub const FOUR_REPORT: &[u8] = b"steer 1
 p 0 q 0 via reta class 0 want - head - tail 0 cpu 1 why unset at 1 app 0 in 1 place inbox
 p 1 q 0 via reta class 0 want 2 head 0 tail 1 cpu 1 why kept at 2 app 0 in 2 place inbox
 p 2 q 0 via reta class 0 want 2 head 0 tail 2 cpu 1 why kept at 3 app 0 in 3 place inbox
@@ -33,7 +33,16 @@ cpu 2 accepted 1 pulled 0 delivered 0 retired 0 dropped 0
 cpu 3 accepted 0 pulled 0 delivered 0 retired 0 dropped 0
 tx 0 accepted 0 pulled 0 delivered 0 retired 0
 w app 0 entry 0 cpu 2
+end 4 of 4
 ";
+
+/// The end of that report.
+const FOUR_END: &[u8] = b"end 4 of 4\n";
+
+/// That report up to its last line.
+pub fn four_lines() -> &'static [u8] {
+    FOUR_REPORT.strip_suffix(FOUR_END).unwrap_or(FOUR_REPORT)
+}
 
 /// Plain packet steering of one queue, and one packet that is swept through.
 pub const SWEPT: &[u8] =
@@ -69,6 +78,9 @@ pub fn capture_of(alloc: Global, letters: &[u8]) -> Result<Vec<u8>, Fail> {
     file(alloc, &frames)
 }
 
+/// The words of a replay.
+pub const REPLAY: [&str; 3] = ["replay", "p.json", "a.pcap"];
+
 /// What the replay of a plan with these settings and steps on the frames of these letters comes to.
 pub fn replayed(
     alloc: Global,
@@ -78,16 +90,32 @@ pub fn replayed(
 ) -> Result<Outcome, Fail> {
     let plan = plan_of(alloc, settings, steps)?;
     let capture = capture_of(alloc, letters)?;
-    let desk = desk_of(alloc, &[("p.json", &plan), ("a.pcap", &capture)], &[])?;
-    called(alloc, &["replay", "p.json", "a.pcap"], desk)
+    replayed_files(alloc, &plan, &capture, &[])
+}
+
+/// What the replay of these files comes to, where the desk's calls of these numbers fail.
+pub fn replayed_files(
+    alloc: Global,
+    plan: &[u8],
+    capture: &[u8],
+    failing: &[u64],
+) -> Result<Outcome, Fail> {
+    let files = [("p.json", plan), ("a.pcap", capture)];
+    called_over(alloc, &REPLAY, &files, failing)
 }
 
 /// Asserts that the replay of each case has just its report.
 pub fn are_reported(rt: &impl Abort, alloc: Global, cases: &[Case<'_>]) -> Result<(), Fail> {
-    for (case, (settings, steps, letters, report)) in cases.iter().enumerate() {
-        let got = replayed(alloc, settings, steps, letters)?;
-        comes_to(rt, &got, 0, *report, b"", case);
+    for (i, case) in cases.iter().enumerate() {
+        is_reported(rt, alloc, *case, i)?;
     }
+    Ok(())
+}
+
+fn is_reported(rt: &impl Abort, alloc: Global, case: Case<'_>, number: usize) -> Result<(), Fail> {
+    let (settings, steps, letters, report) = case;
+    let got = replayed(alloc, settings, steps, letters)?;
+    comes_to(rt, &got, 0, report, b"", number);
     Ok(())
 }
 
@@ -104,18 +132,30 @@ pub fn has_lines(text: &[u8], lines: &[u8]) -> bool {
 
 /// Asserts that the report of each case has its lines.
 pub fn have_lines(rt: &impl Abort, alloc: Global, cases: &[Case<'_>]) -> Result<(), Fail> {
-    for (case, (settings, steps, letters, lines)) in cases.iter().enumerate() {
-        let got = replayed(alloc, settings, steps, letters)?;
-        same(rt, &got.status, &0, case);
-        same(rt, &has_lines(&got.out, lines), &true, case);
-        same_bytes(rt, &got.err, b"", case);
+    for (i, case) in cases.iter().enumerate() {
+        is_with_lines(rt, alloc, *case, i)?;
     }
+    Ok(())
+}
+
+/// Asserts that the report of a case has its lines.
+pub fn is_with_lines(
+    rt: &impl Abort,
+    alloc: Global,
+    case: Case<'_>,
+    number: usize,
+) -> Result<(), Fail> {
+    let (settings, steps, letters, lines) = case;
+    let got = replayed(alloc, settings, steps, letters)?;
+    same(rt, &got.status, &0, number);
+    same(rt, &has_lines(&got.out, lines), &true, number);
+    same_bytes(rt, &got.err, b"", number);
     Ok(())
 }
 
 /// The files of four packets of one flow and their plan.
 pub fn four_packets(alloc: Global) -> Result<(Vec<u8>, Vec<u8>), Fail> {
     let plan = plan_of(alloc, ONE_FLOW, FOUR_STEPS)?;
-    let capture = file(alloc, &[&FRAME_A, &FRAME_A, &FRAME_A, &FRAME_A])?;
+    let capture = file(alloc, &FOUR_FRAMES)?;
     Ok((plan, capture))
 }

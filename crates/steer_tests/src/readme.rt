@@ -37,7 +37,7 @@ end 3 of 3
 ";
 
 // What the program's taps, in their order, and its report come to over the files of this desk.
-fn observed(alloc: Global, desk: MemoryDesk) -> Result<Outcome, Fail> {
+fn observed(alloc: Global, desk: &mut MemoryDesk) -> Result<Outcome, Fail> {
     let mut taps = Vec::new(alloc);
     for tap in standard_taps(alloc)? {
         let tap: Box<dyn Tap> = Box::new(alloc, tap)?;
@@ -50,9 +50,9 @@ fn observed(alloc: Global, desk: MemoryDesk) -> Result<Outcome, Fail> {
 fn the_report_of_the_readme_is_written(rt: HostRuntime) -> Result<(), Fail> {
     let alloc = rt.alloc();
     let capture = file(alloc, &[&FRAME_A, &FRAME_A, &FRAME_A])?;
-    let files: [(&str, &[u8]); 2] = [("three.json", PLAN), ("three.pcap", &capture)];
-    let desk = desk_of(alloc, &files, &[])?;
-    let got = observed(alloc, desk)?;
+    let files = [("three.json", PLAN), ("three.pcap", capture.as_slice())];
+    let mut desk = desk_of(alloc, &files, &[])?;
+    let got = observed(alloc, &mut desk)?;
     comes_to(&rt, &got, 0, REPORT, b"", 0);
     Ok(())
 }

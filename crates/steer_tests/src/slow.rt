@@ -3,7 +3,10 @@
 ghost use Rattle.std.specs.Prelude.{None};
 ghost use Rattle.outside_io.specs.Counts.{last_count};
 
+use crate::calls::{Outcome, outcome_of, run, sink};
 use outside_io::{Begin, Desk, Got, MemorySink, Sink, Took, WriteFault};
+use std::alloc::Global;
+use std::test::Fail;
 
 /// A desk with a plan, `p.json`, and a capture under every other name.
 #[derive(Drop)]
@@ -78,4 +81,14 @@ impl Sink for Dripping {
     fn flush(&mut self) -> Result<(), WriteFault> {
         self.inner.flush()
     }
+}
+
+/// What a call of these words over a slow desk comes to, with a slow standard output.
+pub fn called_slowly(alloc: Global, texts: &[&str], mut desk: Slowly) -> Result<Outcome, Fail> {
+    let mut out = Dripping {
+        inner: sink(alloc, &[])?,
+    };
+    let mut err = sink(alloc, &[])?;
+    let status = run(alloc, texts, &mut desk, &mut out, &mut err, Vec::new(alloc))?;
+    outcome_of(alloc, status, &out.inner, &err)
 }

@@ -177,71 +177,75 @@ c 0 expire expired 1
 end 2 of 2
 ";
 
+const SWEEPS: [Case; 2] = [
+    (
+        TURNS_PLAN,
+        br#""arrive","arrive","arrive","arrive","poll 0","poll 0","sweep""#,
+        b"a-ab",
+        TURNS,
+    ),
+    (
+        ROUNDS_PLAN,
+        br#""arrive","arrive","poll 1","drain 1","reply 1","poll 0","sweep""#,
+        b"ababa",
+        ROUNDS,
+    ),
+];
+
 #[test]
 fn a_sweep_goes_round_in_its_order(rt: HostRuntime) -> Result<(), Fail> {
-    let plans: [Case; 2] = [
-        (
-            TURNS_PLAN,
-            br#""arrive","arrive","arrive","arrive","poll 0","poll 0","sweep""#,
-            b"a-ab",
-            TURNS,
-        ),
-        (
-            ROUNDS_PLAN,
-            br#""arrive","arrive","poll 1","drain 1","reply 1","poll 0","sweep""#,
-            b"ababa",
-            ROUNDS,
-        ),
-    ];
-    are_reported(&rt, rt.alloc(), &plans)
+    are_reported(&rt, rt.alloc(), &SWEEPS)
 }
+
+const RECORDED: [Case; 1] = [(
+    IN_HAND_PLAN,
+    br#""arrive","poll 0","arrive","poll 0","drain 1","send 0","serve 0","serve 0""#,
+    b"ab",
+    IN_HAND,
+)];
 
 #[test]
 fn the_packet_in_hand_is_recorded(rt: HostRuntime) -> Result<(), Fail> {
-    let plans: [Case; 1] = [(
-        IN_HAND_PLAN,
-        br#""arrive","poll 0","arrive","poll 0","drain 1","send 0","serve 0","serve 0""#,
-        b"ab",
-        IN_HAND,
-    )];
-    are_reported(&rt, rt.alloc(), &plans)
+    are_reported(&rt, rt.alloc(), &RECORDED)
 }
+
+const SIZES: [Case; 2] = [
+    (
+        ROUNDED_PLAN,
+        br#""record 0","arrive","poll 0","drain 2","flows 0 5","sock 3","record 0","arrive",
+            "poll 0""#,
+        b"aa",
+        ROUNDED,
+    ),
+    (
+        KEYED_PLAN,
+        br#""record 0","record 1","arrive","arrive","poll 1","poll 1""#,
+        b"ab",
+        KEYED,
+    ),
+];
 
 #[test]
 fn sizes_key_and_kinds_are_those_of_the_plan(rt: HostRuntime) -> Result<(), Fail> {
-    let plans: [Case; 2] = [
-        (
-            ROUNDED_PLAN,
-            br#""record 0","arrive","poll 0","drain 2","flows 0 5","sock 3","record 0","arrive",
-                "poll 0""#,
-            b"aa",
-            ROUNDED,
-        ),
-        (
-            KEYED_PLAN,
-            br#""record 0","record 1","arrive","arrive","poll 1","poll 1""#,
-            b"ab",
-            KEYED,
-        ),
-    ];
-    are_reported(&rt, rt.alloc(), &plans)
+    are_reported(&rt, rt.alloc(), &SIZES)
 }
+
+const COUNTS: [Case; 2] = [
+    (
+        SLOW_PLAN,
+        br#""record 0","arrive","poll 0","drain 1","expire","arrive""#,
+        b"aa",
+        SLOW,
+    ),
+    (
+        FAST_PLAN,
+        br#""record 0","arrive","poll 0","drain 1","expire","arrive""#,
+        b"aa",
+        FAST,
+    ),
+];
 
 #[test]
 fn a_filter_goes_by_the_count_of_its_own_queue(rt: HostRuntime) -> Result<(), Fail> {
-    let plans: [Case; 2] = [
-        (
-            SLOW_PLAN,
-            br#""record 0","arrive","poll 0","drain 1","expire","arrive""#,
-            b"aa",
-            SLOW,
-        ),
-        (
-            FAST_PLAN,
-            br#""record 0","arrive","poll 0","drain 1","expire","arrive""#,
-            b"aa",
-            FAST,
-        ),
-    ];
-    are_reported(&rt, rt.alloc(), &plans)
+    are_reported(&rt, rt.alloc(), &COUNTS)
 }

@@ -1,7 +1,7 @@
 //! Small plans, one for each case of the headline, with whole reports that were worked out by hand
 //! from the definitions. Frame A has hash 51ccc178 and frame B c626b0ea.
-use crate::calls::same;
-use crate::plans::{Case, are_reported, has_lines, replayed};
+use crate::plans::{Case, are_reported, is_with_lines};
+use std::alloc::{AllocError, Global};
 use std::test::Fail;
 
 /// One receive queue with one flow entry, whose packets go to processor 1; the application stands
@@ -158,97 +158,107 @@ c 0 stand 0 3 done
 end 3 of 3
 ";
 
+const CHOICES: [Case; 4] = [
+    (STEERED, br#""arrive","poll 0""#, b"a", UNSET),
+    (
+        STEERED,
+        br#""arrive","poll 0","record 0","pull 1","deliver 1","arrive","poll 0""#,
+        b"aa",
+        KEPT,
+    ),
+    (
+        STEERED,
+        br#""arrive","poll 0","record 0","drain 1","arrive","poll 0","arrive","poll 0""#,
+        b"aaa",
+        PASSED,
+    ),
+    (
+        STEERED,
+        br#""arrive","poll 0","pull 1","offline 1","deliver 1","retire 1","offline 1","arrive",
+            "poll 0""#,
+        b"aa",
+        OFFLINE,
+    ),
+];
+
 #[test]
 fn each_case_of_the_rule_is_reported(rt: HostRuntime) -> Result<(), Fail> {
-    let plans: [Case; 4] = [
-        (STEERED, br#""arrive","poll 0""#, b"a", UNSET),
-        (
-            STEERED,
-            br#""arrive","poll 0","record 0","pull 1","deliver 1","arrive","poll 0""#,
-            b"aa",
-            KEPT,
-        ),
-        (
-            STEERED,
-            br#""arrive","poll 0","record 0","drain 1","arrive","poll 0","arrive","poll 0""#,
-            b"aaa",
-            PASSED,
-        ),
-        (
-            STEERED,
-            br#""arrive","poll 0","pull 1","offline 1","deliver 1","retire 1","offline 1","arrive",
-                "poll 0""#,
-            b"aa",
-            OFFLINE,
-        ),
-    ];
-    are_reported(&rt, rt.alloc(), &plans)
+    are_reported(&rt, rt.alloc(), &CHOICES)
 }
+
+const LOSSES: [Case; 2] = [
+    (
+        SHORT,
+        br#""arrive","poll 0","record 0","arrive","poll 0","drain 1","arrive","poll 0""#,
+        b"aaa",
+        FULL,
+    ),
+    (
+        PLAIN,
+        br#""arrive","arrive","arrive","arrive","arrive","arrive","poll 0","drain 1","poll 0",
+            "pull 1","poll 0","poll 0","take 0""#,
+        b"aaaaaaa",
+        PLACES,
+    ),
+];
 
 #[test]
 fn each_place_and_a_full_backlog_are_reported(rt: HostRuntime) -> Result<(), Fail> {
-    let plans: [Case; 2] = [
-        (
-            SHORT,
-            br#""arrive","poll 0","record 0","arrive","poll 0","drain 1","arrive","poll 0""#,
-            b"aaa",
-            FULL,
-        ),
-        (
-            PLAIN,
-            br#""arrive","arrive","arrive","arrive","arrive","arrive","poll 0","drain 1","poll 0",
-                "pull 1","poll 0","poll 0","take 0""#,
-            b"aaaaaaa",
-            PLACES,
-        ),
-    ];
-    are_reported(&rt, rt.alloc(), &plans)
+    are_reported(&rt, rt.alloc(), &LOSSES)
 }
+
+const MOVES: [Case; 2] = [
+    (
+        FILTERED,
+        br#""record 0","arrive","poll 0","arrive","poll 0","arrive","poll 1""#,
+        b"aba",
+        FILTER,
+    ),
+    (
+        SENT,
+        br#""arrive","poll 0","drain 0","reply 0","stand 0 3","tpull 0","tdeliver 0","arrive",
+            "poll 0","drain 0","reply 0","tretire 0","ship 0","arrive","poll 0","drain 0",
+            "reply 0""#,
+        b"aaa",
+        TRANSMIT,
+    ),
+];
 
 #[test]
 fn moves_by_a_filter_and_of_replies_are_reported(rt: HostRuntime) -> Result<(), Fail> {
-    let plans: [Case; 2] = [
-        (
-            FILTERED,
-            br#""record 0","arrive","poll 0","arrive","poll 0","arrive","poll 1""#,
-            b"aba",
-            FILTER,
-        ),
-        (
-            SENT,
-            br#""arrive","poll 0","drain 0","reply 0","stand 0 3","tpull 0","tdeliver 0","arrive",
-                "poll 0","drain 0","reply 0","tretire 0","ship 0","arrive","poll 0","drain 0",
-                "reply 0""#,
-            b"aaa",
-            TRANSMIT,
-        ),
-    ];
-    are_reported(&rt, rt.alloc(), &plans)
+    are_reported(&rt, rt.alloc(), &MOVES)
 }
 
 // 130 packets arrive and are polled, and nothing is pulled. Of flow A 128 are accepted. The next
 // finds 128 waiting, more than half of 200, and is the 129th of its bucket 178: the flow limit
 // drops it. Flow B has bucket 0ea, and is accepted.
-#[test]
-fn a_drop_by_the_flow_limit_is_reported(rt: HostRuntime) -> Result<(), Fail> {
-    let alloc = rt.alloc();
-    let mut letters = vec![in alloc; b'a'; 129]?;
-    letters.push(b'b')?;
-    let mut steps = b"\"expire\"".to_vec(alloc)?;
-    for _ in 0..130 {
-        steps.extend_from_slice(b",\"arrive\",\"poll 0\"")?;
-    }
-    let got = replayed(alloc, LIMITED, &steps, &letters)?;
-    same(&rt, &got.status, &0, 0);
-    let lines =
-        b"p 127 q 0 via reta class - want - head - tail - cpu 1 why plain at 128 app 0 in - place \
-            backlog
+const FLOODED: &[u8] =
+    b"p 127 q 0 via reta class - want - head - tail - cpu 1 why plain at 128 app 0 in - place \
+        backlog
 p 128 q 0 via reta class - want - head - tail - cpu 1 why plain at drop 1 128 0 flow 129 app 0 in \
 - place drop
 p 129 q 0 via reta class - want - head - tail - cpu 1 why plain at 129 app 0 in - place backlog
 cpu 1 accepted 129 pulled 0 delivered 0 retired 0 dropped 1
 c 0 expire expired 0
 end 130 of 130";
-    same(&rt, &has_lines(&got.out, lines), &true, 0);
-    Ok(())
+
+fn flood(alloc: Global) -> Result<Vec<u8>, AllocError> {
+    let mut steps = b"\"expire\"".to_vec(alloc)?;
+    for _ in 0..130 {
+        steps.extend_from_slice(b",\"arrive\",\"poll 0\"")?;
+    }
+    Ok(steps)
+}
+
+fn letters(alloc: Global) -> Result<Vec<u8>, AllocError> {
+    let mut letters = vec![in alloc; b'a'; 129]?;
+    letters.push(b'b')?;
+    Ok(letters)
+}
+
+#[test]
+fn a_drop_by_the_flow_limit_is_reported(rt: HostRuntime) -> Result<(), Fail> {
+    let letters = letters(rt.alloc())?;
+    let steps = flood(rt.alloc())?;
+    is_with_lines(&rt, rt.alloc(), (LIMITED, &steps, &letters, FLOODED), 0)
 }
