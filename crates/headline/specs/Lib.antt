@@ -6,6 +6,9 @@ pub mod Replies
 pub mod Events
 pub mod Moments
 pub mod Headline
+pub mod HopOrders
+pub mod ListOrders
+pub mod ByRun
 pub mod Live
 pub mod Forged
 pub mod Laws
