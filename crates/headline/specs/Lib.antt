@@ -6,6 +6,10 @@ pub mod Replies
 pub mod Events
 pub mod Moments
 pub mod Headline
+pub mod HopOrders
+pub mod ListOrders
+pub mod ByRun
 pub mod Live
 pub mod Forged
+pub mod ForgedRuns
 pub mod Laws
