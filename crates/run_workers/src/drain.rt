@@ -3,7 +3,7 @@ ghost use Rattle.std.specs.Prelude.{◌≡◌, ◌<◌, ◌≤◌, None, Some, [
 ghost use Rattle.board_api.specs.Calls.Rights.{Pulls};
 ghost use Rattle.run_workers.specs.Hands.Deltas.{Serves, this_lane};
 ghost use Rattle.steer_model.specs.State.Setup.{Setup};
-ghost use Rattle.run_workers.specs.Hands.Drains.{IsDrain, Looks, out_for, outs_of};
+ghost use Rattle.run_workers.specs.Hands.Drains.{IsDrain, Looks, Moves, Stops, out_for, outs_of};
 
 use board_api::{Board, BoardSeat, Hold, LaneId, Pull};
 use steer_base::{PacketId, number_at};
@@ -71,6 +71,8 @@ impl Drain {
         requires is { IsDrain given.now self.old seat.old.steps }
         ensures is { IsDrain given.now self.new seat.new.steps }
         ensures serves { Serves (this_lane self.old.lane) seat.old seat.new }
+        ensures stops { Stops (B.view board.now).sizes given.now self.new seat.old seat.new }
+        ensures did { Moves self.old self.new result }
         ensures lane { self.new.lane ≡ self.old.lane }
         ensures exit { self.new.exit ≡ self.old.exit }
     {

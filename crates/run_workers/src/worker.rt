@@ -2,6 +2,7 @@
 ghost use Rattle.std.specs.Prelude.{◌≡◌, ◌<◌, false, true, vec_len};
 ghost use Rattle.run_workers.specs.Parts.{actor_count};
 ghost use Rattle.run_workers.specs.Stages.{stage_view};
+ghost use Rattle.run_workers.specs.Turns.{HasTurn};
 ghost use Rattle.run_workers.specs.Workers.{GoesOn, IsWorking, drains_are_free, is_free};
 ghost use Rattle.run_workers.specs.Workers.{pollers_are_free, servers_are_free};
 
@@ -46,6 +47,8 @@ impl Worker {
             stage.now.shared stage.now.late.items) self.old seats.old }
         ensures goes { GoesOn (stage_view (B.view stage.now.rx) (B.view stage.now.tx)
             stage.now.shared stage.now.late.items) self.old self.new seats.old seats.new }
+        ensures plays { HasTurn (stage_view (B.view stage.now.rx) (B.view stage.now.tx)
+            stage.now.shared stage.now.late.items) result self.old self.new seats.old seats.new }
         ensures idle { result ≡ false → is_free self.new ≡ true }
     {
         let polled = self.play_each(rt, stage, seats, Part::Poll);
