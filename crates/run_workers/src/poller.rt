@@ -192,7 +192,10 @@ impl Poller {
         ensures ring { SameConsumer self.old.ring self.new.ring }
         ensures same { self.new ≡ record self.old { hand = self.new.hand; ring = self.new.ring } }
     {
-        if self.hand.is_some() || self.choices.len() >= self.choices.room() {
+        if self.hand.is_some() {
+            return false;
+        }
+        if self.choices.len() >= self.choices.room() {
             return false;
         }
         match self.ring.pop() {
