@@ -1,6 +1,6 @@
 -- A busy answer was true at one moment of its board's order.
-use Rattle.std.proofs.Common.{◌≡◌, ◌⊎◌, inl, inr, ℕ, ◌<◌, ◌≤◌, List, [], ◌∷◌, ◌++◌, Option, Some, None}
-use Rattle.std.proofs.Common.{length, refl, sym, ap, ◌∙◌, subst, arith, append_assoc}
+use Rattle.std.proofs.Common.{◌≡◌, ◌⊎◌, inl, inr, ℕ, ◌<◌, ◌≤◌, List, [], ◌∷◌, ◌++◌, Option, Some}
+use Rattle.std.proofs.Common.{None, length, refl, sym, ap, ◌∙◌, subst, arith, append_assoc}
 use Rattle.std.specs.Prelude.{slice_get}
 use Rattle.linearization.specs.Orders.{StepBy}
 use Rattle.steer_base.specs.declared.command.Answer.{Answer}
@@ -70,7 +70,8 @@ none_opened : (lane head w : ℕ) (looked : List Looked) (rest : List BoardStep)
     → ⊥
 unfolding opening
 none_opened lane head w looked rest k after at =
-    elim (nth-first (Weighed lane head) (looking looked (Gate (Shut w) ∷ rest)) k (Gate Opened) at) [
+    elim (nth-first (Weighed lane head) (looking looked (Gate (Shut w) ∷ rest)) k (Gate Opened)
+    at) [
       | inl look ↦ elim (nth-first (Gate (Shut w)) rest k (Gate Opened)
           (no_look looked (Gate (Shut w) ∷ rest) k look)) [
             | inl old ↦ (let less = nth-inside rest k (Gate Opened) old in absurd (omega arith))
@@ -132,8 +133,8 @@ module _ (i : Input) (about : BoardSizes) (seats : List BoardSeatView) (left : B
       (closer about) v.word step in
       (here (length rest), v.word, step, v.counts ∙ visits.0, v.some)
 
-  lane_had_packets : (c : Command) (lane head tail : ℕ) → FindsOneBusy i lanes (f t) c lane head tail
-      → WasBusy i about order c (busy.NotEmpty lane head tail)
+  lane_had_packets : (c : Command) (lane head tail : ℕ) → FindsOneBusy i lanes (f t) c lane
+      head tail → WasBusy i about order c (busy.NotEmpty lane head tail)
   lane_had_packets c lane head tail b =
       let w : BoardStep = Weighed lane b.head_word in
       let counted : BoardStep = Counted lane b.tail_word in
