@@ -59,7 +59,7 @@ own_is order q (s ∷ seats) parts none =
     (λ apart. none (elsewhere s.number q (numbers_of (Views seats)) ne apart)))
 
 -- the own lists of a closing are the parts of its order
-own_parts : (order : Order) (seats : List BoardSeatView) → ArePartsOf order (Views seats)
+pub own_parts : (order : Order) (seats : List BoardSeatView) → ArePartsOf order (Views seats)
     → own_in seats ≡ own_of order
 own_parts order seats parts =
     λ i q. own_is order q seats parts.each (none_of (Views seats) q order parts.whole) i

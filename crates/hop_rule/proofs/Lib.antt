@@ -1,5 +1,6 @@
 pub mod Boards
 pub mod Cases
+pub mod Closes
 pub mod Closings
 pub mod Crosses
 pub mod Deliveries

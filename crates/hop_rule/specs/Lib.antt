@@ -1,4 +1,5 @@
 pub mod Boards
+pub mod CloseLaws
 pub mod Deliveries
 pub mod Emptied
 pub mod Events

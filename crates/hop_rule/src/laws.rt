@@ -1,5 +1,6 @@
 //! Lemmas on every lawful order of steps. The functions have no code.
 ghost use Rattle.hop_rule.specs.Boards.{PartsAreLawful};
+ghost use Rattle.hop_rule.specs.CloseLaws.{BusyLanesHavePackets, FoundVisitsAreOpen};
 ghost use Rattle.hop_rule.specs.Events.{BeginsFresh, EachStepIsAnEvent};
 ghost use Rattle.hop_rule.specs.LaneLaws.{EachRetireFollows, HeadsFollowDeliveries};
 ghost use Rattle.hop_rule.specs.LaneLaws.{MiddleLanesAreHeldByOne, OutLanesAreHeldByOne};
@@ -104,6 +105,13 @@ pub fn a_visit_sees_one_list_of_settings()
 pub fn an_emptied_lane_stands_first()
     ensures first { EmptiedLanesStandFirst }
     ensures counts { HeadsAreBelowTails }
+{}
+
+/// Lemma: a close that did not shut counts the visits that were open at that moment, and there was
+/// one. A lane that was not found empty behind a close had a packet, not yet retired, at the close.
+pub fn a_busy_gate_or_lane_was_busy()
+    ensures visits { FoundVisitsAreOpen }
+    ensures lanes { BusyLanesHavePackets }
 {}
 
 /// Lemma: each step is one event of a hop on its lanes and its gate, or leaves them as they are.

@@ -9,7 +9,7 @@ mod step;
 mod wrong_orders;
 
 pub use laws::{
-    a_held_lane_is_as_its_holder_found_it, a_loaded_head_was_passed,
+    a_busy_gate_or_lane_was_busy, a_held_lane_is_as_its_holder_found_it, a_loaded_head_was_passed,
     a_visit_sees_one_list_of_settings, an_emptied_lane_stands_first,
     deliveries_and_places_are_one_to_one, drops_are_explained, each_step_is_one_event_or_none,
     heads_follow_deliveries, lanes_deliver_in_order, loaded_tails_count_packets,

@@ -26,7 +26,7 @@ use Rattle.steer_model.specs.Good.Inputs.{Input, setup_in}
 use Rattle.run_coupling.specs.Laws.Calls.{busy_steps}
 use Rattle.run_coupling.specs.Coupling.EmptiedLanes.{FindsAllEmpty}
 use Rattle.run_coupling.proofs.Tries.CallLemmas.{busy_calls, done_calls, inside_calls}
-use Rattle.run_coupling.proofs.Tries.EmptiedLemmas.{gates-looking, looking-append}
+use Rattle.run_coupling.proofs.Tries.EmptiedLemmas.{gates-looking, looking-append, looking-split}
 use Rattle.run_controller.specs.Gated.{GatedTriesKeep, HasAffected, IsGated, KeepsTry}
 
 -- the cases of an answer
@@ -118,8 +118,14 @@ module _ (i : Input) (about : BoardSizes) (left : List LaneList) (lanes : CpuMas
       sets = λ words changes one. inr (inr (refl, inl (inside_calls word).0));
       finds = inl (inside_calls word).1;
       inside = λ k same.
-          (let e = ap (λ a. count_of (busy_of a (Inside n))) same in
-          (omega arith, omega arith));
+          (let e : n ≡ k = ap (λ a. count_of (busy_of a (Inside n))) same in
+          record {
+            word = word;
+            are = refl;
+            counts = sym e ∙ is;
+            some = omega arith;
+            few = omega arith;
+          });
       busy = λ lane head tail same.
           (let e = ap (λ a. kind_of (busy_of a (Inside n))) same in absurd (omega arith));
     },
@@ -167,15 +173,15 @@ module _ (i : Input) (about : BoardSizes) (left : List LaneList) (lanes : CpuMas
               (record {
                 within = subst (λ n. lane < n) (sym counted) less;
                 affected = sym (affected lane less) ∙ is;
-                newer = looks.newer;
-                between = looks.between;
-                older = looks.older;
+                word = word;
+                looked = found.looked;
+                empty = found.empty;
                 head_word = found.last.head;
                 tail_word = found.last.tail;
-                are = looks.are
-                    ∙ ap (λ l. looks.newer
-                    ++ Counted l found.last.tail
-                    ∷ (looks.between ++ Weighed l found.last.head ∷ looks.older)) found.lane_is;
+                are = ap (λ ds. Gate Opened ∷ ds)
+                    (looking-split found.looked found.last [] base)
+                    ∙ ap (λ l. Gate Opened ∷ Counted l found.last.tail
+                    ∷ Weighed l found.last.head ∷ looking found.looked base) found.lane_is;
                 head_is = found.head_is;
                 tail_is = found.tail_is;
                 apart = found.apart;

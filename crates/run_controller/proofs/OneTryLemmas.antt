@@ -26,14 +26,14 @@ use Rattle.board_api.specs.Seats.{BoardSeatView}
 use Rattle.board_api.specs.Views.{BoardView}
 use Rattle.hop_delivery.specs.Orders.Commands.{SettingChange, received_sets, sent_sets}
 use Rattle.hop_delivery.specs.Orders.ReceiveSettings.{Queues, queues}
-use Rattle.steer_model.specs.Good.Commands.{IsEnd, gate_lanes}
+use Rattle.steer_model.specs.Good.Commands.{IsEnd}
 use Rattle.steer_model.specs.Good.Inputs.{Input, setup_in}
 use Rattle.steer_model.specs.Steps.Commands.{affects, is_done, refused_answer}
 use Rattle.run_words.specs.Numbers.{hint_number}
 use Rattle.run_words.specs.Values.{place_word}
 use Rattle.run_words.specs.declared.hint_word.HintWord.TheVariants as word
 use Rattle.run_words.specs.declared.shared.Shared.{Shared}
-use Rattle.run_coupling.specs.Coupling.Answers.{IsAnswered, IsBusy}
+use Rattle.run_coupling.specs.Coupling.Answers.{IsAnswered, IsBusy, IsBusyAt}
 use Rattle.run_coupling.specs.Coupling.EmptiedLanes.{FindsAllEmpty, NoSets}
 use Rattle.run_coupling.specs.Coupling.Inputs.{NamesReceiveQueues, receive_queues}
 use Rattle.run_coupling.specs.Coupling.Tries.{SetsByAnswer, Try, sets_and_openings}
@@ -223,29 +223,39 @@ module _ (i : Input) (h : History) (hints : Shared) (rx tx : BoardView) where
     gated_answered : (about : BoardSizes) (left : List LaneList) (c : Command) (lanes : CpuMask)
         (m : SettingChange) (answer : Answer) (old new : BoardSeatView)
         (steps rx_steps tx_steps : List BoardStep) → about.seats ≡ i.plan.workers + 1
-        → gate_lanes h c ≡ Some left → IsEnd i c says.Done
-        → IsGated about lanes m.word m.value old new answer
+        → IsEnd i c says.Done → IsGated about lanes m.word m.value old new answer
         → KeepsTry i about left c m answer steps
-        → ((lane head tail : ℕ) → answer ≡ says.Busy (NotEmpty lane head tail)
+        → (IsBusyAt i left steps (record { command = c; answer = answer })
         → IsBusy i h (tried c answer rx_steps tx_steps))
         → IsAnswered i h (tried c answer rx_steps tx_steps) None
-    gated_answered about left c lanes m says.Done old new steps rx_steps tx_steps seats at ends
-        gated k busy = inl ends
+    gated_answered about left c lanes m says.Done old new steps rx_steps tx_steps seats ends gated
+        k busy = inl ends
     gated_answered about left c lanes m (says.Busy (Inside n)) old new steps rx_steps tx_steps seats
-        at ends gated k busy =
+        ends gated k busy =
         let is = k.inside n refl in
-        let few = is.1 in
-        inr (inl (left, n, at, refl, is.0, omega (arith, seats, few)))
+        let few = is.few in
+        inr (busy (inl (
+          n,
+          refl,
+          record {
+            word = is.word;
+            are = is.are;
+            counts = is.counts;
+            some = is.some;
+            few = omega (arith, seats, few);
+          },
+        )))
     gated_answered about left c lanes m (says.Busy (NotEmpty lane head tail)) old new steps rx_steps
-        tx_steps seats at ends gated k busy = inr (busy lane head tail refl)
-    gated_answered about left c lanes m (says.Expired n) old new steps rx_steps tx_steps seats at
-        ends gated k busy = absurd gated
-    gated_answered about left c lanes m (says.Idle why) old new steps rx_steps tx_steps seats at
-        ends gated k busy = absurd gated
+        tx_steps seats ends gated k busy =
+        inr (busy (inr (lane, head, tail, refl, k.busy lane head tail refl)))
+    gated_answered about left c lanes m (says.Expired n) old new steps rx_steps tx_steps seats ends
+        gated k busy = absurd gated
+    gated_answered about left c lanes m (says.Idle why) old new steps rx_steps tx_steps seats ends
+        gated k busy = absurd gated
     gated_answered about left c lanes m (says.CpuInUse user) old new steps rx_steps tx_steps seats
-        at ends gated k busy = absurd gated
-    gated_answered about left c lanes m says.CpuOffline old new steps rx_steps tx_steps seats at
         ends gated k busy = absurd gated
+    gated_answered about left c lanes m says.CpuOffline old new steps rx_steps tx_steps seats ends
+        gated k busy = absurd gated
 
     module _ (words : ℕ → ℕ) (k : KnownSettings) (agree : Agrees q words k) where
       receive_kept : (c : Command) (m : Change) (answer : Answer) (old new : Seats)
@@ -272,9 +282,7 @@ module _ (i : Input) (h : History) (hints : Shared) (rx tx : BoardView) where
               | inr found ↦ inr (as_set m, one, found)
             ];
             answered = gated_answered rx.sizes h.lanes c a.gated.0 (as_set m) answer old.rx new.rx
-                t.0 t.0 [] boards.rx_seats at.lanes (at.ends i) a.gated.2 t.2
-                (λ l head tail e.
-                inr (inl (l, head, tail, at.lanes, e, t.2.busy l head tail e)));
+                t.0 t.0 [] boards.rx_seats (at.ends i) a.gated.2 t.2 (λ b. inl (at.lanes, b));
             stored = behind-store c _ answer old.hint new.hint a.hint;
           }
 
@@ -299,9 +307,8 @@ module _ (i : Input) (h : History) (hints : Shared) (rx tx : BoardView) where
             tx_sets = λ w. t.2.sets w (λ w c. sent_sets txs c) one;
             finds = inl tt;
             answered = gated_answered tx.sizes h.tx_lanes c a.gated.0 (as_set m) answer old.tx
-                new.tx t.0 [] t.0 boards.tx_seats at.lanes (at.ends i) a.gated.2 t.2
-                (λ l head tail e.
-                inr (inr (l, head, tail, at.lanes, e, t.2.busy l head tail e)));
+                new.tx t.0 [] t.0 boards.tx_seats (at.ends i) a.gated.2 t.2
+                (λ b. inr (at.lanes, b));
             stored = stores-none _ old.hint new.hint a.hint;
           }
 

@@ -1,5 +1,5 @@
 -- One try of a command behind a gate, and the coupling invariants that it keeps.
-use Rattle.std.specs.Prelude.{◌≡◌, ◌⊎◌, ℕ, ◌+◌, ◌<◌, ◌≤◌, List, [], ◌∷◌, ◌++◌}
+use Rattle.std.specs.Prelude.{◌≡◌, ◌⊎◌, ℕ, ◌-◌, ◌<◌, List, [], ◌∷◌, ◌++◌}
 use Rattle.std.specs.Prelude.{None, Some, length}
 use Rattle.steer_base.specs.Sets.{has}
 use Rattle.steer_base.specs.declared.command.Answer.{Answer}
@@ -15,7 +15,7 @@ use Rattle.hop_delivery.specs.Orders.Commands.{SettingChange}
 use Rattle.steer_model.specs.Good.Inputs.{Input, setup_in}
 use Rattle.steer_model.specs.Steps.Commands.{affects}
 use Rattle.run_controller.specs.Gates.{ClosesEmpty, SetsAndOpens}
-use Rattle.run_coupling.specs.Coupling.Answers.{FindsOneBusy}
+use Rattle.run_coupling.specs.Coupling.Answers.{FindsOneBusy, FindsVisits}
 use Rattle.run_coupling.specs.Coupling.EmptiedLanes.{FindsAllEmpty, NoSets}
 use Rattle.run_coupling.specs.Coupling.Tries.{SetsByAnswer, sets_and_openings}
 
@@ -36,8 +36,8 @@ HasAffected i about c lanes =
 
 -- What a try of a command with this one setting keeps of the coupling invariants: it sets and opens
 -- as its answer says; if it was done the lanes were found empty, and else it made no setting; if it
--- was busy there were visits open, of as many seats as it says and not the closer's, or there are
--- the two loads of the lane that it names.
+-- was busy it is one close that found as many visits as it says, of seats other than the closer's,
+-- or it found the lane that it names not empty.
 pub record KeepsTry (i : Input) (about : BoardSizes) (lanes : List LaneList) (c : Command)
     (m : SettingChange) (answer : Answer) (steps : List BoardStep) : Type 0 where
   pub sets : (words : ℕ → ℕ) (changes : (ℕ → ℕ) → Command → List SettingChange)
@@ -46,7 +46,7 @@ pub record KeepsTry (i : Input) (about : BoardSizes) (lanes : List LaneList) (c 
       (sets_and_openings steps)
   pub finds : NoSets steps
       ⊎ FindsAllEmpty about (setup_in i).homes (setup_in i).cpus (setup_in i).txs c m steps
-  pub inside : (n : ℕ) → answer ≡ says.Busy (busy.Inside n) → (1 ≤ n) × (n + 1 ≤ about.seats)
+  pub inside : (n : ℕ) → answer ≡ says.Busy (busy.Inside n) → FindsVisits (about.seats - 1) steps n
   pub busy : (lane head tail : ℕ) → answer ≡ says.Busy (busy.NotEmpty lane head tail)
       → FindsOneBusy i lanes steps c lane head tail
 

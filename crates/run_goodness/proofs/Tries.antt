@@ -1,3 +1,4 @@
 pub mod AnswerLemmas
 pub mod BusyLemmas
 pub mod SizeLemmas
+pub mod BusyAnswerLemmas

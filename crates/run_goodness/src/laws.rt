@@ -9,6 +9,7 @@ ghost use Rattle.run_coupling.specs.Laws.Ends.{TotalsSuffice};
 ghost use Rattle.run_coupling.specs.Laws.OneCount.{OneCountSuffices};
 ghost use Rattle.run_coupling.specs.Laws.OwnTables.{TablesAreEntries, TablesRule};
 ghost use Rattle.run_coupling.specs.Laws.Replies.{RepliesFollow};
+ghost use Rattle.run_goodness.specs.Laws.BusyAnswers.{BusyAnswersAreTrue};
 ghost use Rattle.run_goodness.specs.Laws.BusyLanes.{BusyLanesAreBusy};
 ghost use Rattle.run_goodness.specs.Laws.Commands.{CommandsFollow};
 ghost use Rattle.run_goodness.specs.Laws.GoodRuns.{RunsAreGood};
@@ -46,6 +47,12 @@ pub fn tries_find_empty()
 /// Lemma: a lane that was not found empty had a head below its tail.
 pub fn busy_lanes_are_busy()
     ensures { AtEachClosing BusyLanesAreBusy }
+{}
+
+/// Lemma: in a run each busy answer was true at one moment of its board's order: as many visits
+/// were open as it says, or the lane that it names had a packet when the gate was closed.
+pub fn busy_answers_are_true()
+    ensures { BusyAnswersAreTrue }
 {}
 
 /// Lemma: the commands are given and answered as in a good history.

@@ -15,3 +15,4 @@ pub mod SeatLemmas
 pub mod StayLemmas
 pub mod TakeLemmas
 pub mod TallyLemmas
+pub mod TurnLemmas

@@ -23,6 +23,7 @@ use Rattle.run_workers.specs.Hands.Pollers.{Polls, SteersHand, Waits}
 use Rattle.run_workers.specs.Hands.Servers.{BacksOut, RepliesOrKeeps, TakesOrLeaves}
 use Rattle.run_workers.specs.declared.poller.Poller.{Poller}
 use Rattle.run_workers.specs.declared.server.Server.{Server}
+use Rattle.run_workers.proofs.Hands.DeltaLemmas.{without_reason, without_reasons}
 use Rattle.run_workers.proofs.Hands.DeltaLemmas.{adds_both, holds_both, leaves_both}
 use Rattle.run_workers.specs.Actors.{IsForeign}
 use Rattle.run_workers.specs.Workers.{IsBetween}
@@ -89,17 +90,13 @@ module _ (old new : BoardSeatView) where
   move_gate (inl same) = move_none same
   move_gate (inr out) = move_out out.0 out.1
 
-  move_kept : {A : Type 0} → (new ≡ old) ⊎ (A × BacksOut old new) → Moves no_lane old new
-  move_kept (inl same) = move_none same
-  move_kept (inr out) = move_out out.1.0 out.1.1
-
 polls_steer : (given : Setup) (filters : ℕ) (mid q : Poller) (old new : BoardSeatView)
     (hint_old hint_new : Hint) → Waits mid q old new hint_old hint_new
     ⊎ ((id : ℕ) × (mid.hand ≡ Some id) × SteersHand given filters id mid q old new hint_old
     hint_new)
     → Moves no_lane old new
 polls_steer given filters mid q old new hint_old hint_new (inl waits) =
-    move_gate old new waits.steps
+    move_gate old new (without_reason waits.steps)
 polls_steer given filters mid q old new hint_old hint_new (inr (id, hand, steers)) =
     record {
       added = visit_with steers.turn [] [];
@@ -126,7 +123,8 @@ takes_move about given s t true old new hint_old hint_new x =
     })
     (move_record x.mid new x.records.word (2 * length given.homes) x.records.size x.records.adds)
 takes_move about given s t false old new hint_old hint_new x =
-    move_both old x.mid new (serves_move no_lane old x.mid x.looks) (move_gate x.mid new x.gate)
+    move_both old x.mid new (serves_move no_lane old x.mid x.looks)
+    (move_gate x.mid new (without_reasons x.gate))
 
 pub replies_move : (given : Setup) (late : List Arrival) (s t : Server) (sent : Bool)
     (old new : BoardSeatView) (hint_old hint_new : Hint)
@@ -138,7 +136,8 @@ replies_move given late s t true old new hint_old hint_new x =
       holds = x.replies.holds;
       others = λ l e. x.replies.leaves l;
     }
-replies_move given late s t false old new hint_old hint_new x = move_kept old new x.gate
+replies_move given late s t false old new hint_old hint_new x =
+    move_gate old new (without_reasons x.gate)
 
 -- ---- the seat after a call
 

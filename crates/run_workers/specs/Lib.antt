@@ -6,4 +6,5 @@ pub mod Tally
 pub mod Workers
 pub mod Looks
 pub mod Parts
+pub mod Turns
 pub mod Laws

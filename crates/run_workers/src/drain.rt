@@ -1,9 +1,11 @@
 //! What empties a middle lane into out lanes: the processor of a backlog, or a transmit queue.
-ghost use Rattle.std.specs.Prelude.{◌≡◌, ◌<◌, ◌≤◌, None, Some, []};
+ghost use Rattle.std.specs.Prelude.{◌≡◌, ◌<◌, ◌≤◌, None, Some, [], false, true};
+ghost use Rattle.steer_base.specs.Counters.{number};
 ghost use Rattle.board_api.specs.Calls.Rights.{Pulls};
 ghost use Rattle.run_workers.specs.Hands.Deltas.{Serves, this_lane};
 ghost use Rattle.steer_model.specs.State.Setup.{Setup};
-ghost use Rattle.run_workers.specs.Hands.Drains.{IsDrain, Looks, out_for, outs_of};
+ghost use Rattle.run_workers.specs.Hands.Drains.{FindsNone, IsDrain, Looks, Moves, Stops};
+ghost use Rattle.run_workers.specs.Hands.Drains.{StopsHere, out_for, outs_of};
 
 use board_api::{Board, BoardSeat, Hold, LaneId, Pull};
 use steer_base::{PacketId, number_at};
@@ -71,11 +73,13 @@ impl Drain {
         requires is { IsDrain given.now self.old seat.old.steps }
         ensures is { IsDrain given.now self.new seat.new.steps }
         ensures serves { Serves (this_lane self.old.lane) seat.old seat.new }
+        ensures stops { Stops (B.view board.now).sizes given.now self.new seat.old seat.new }
+        ensures did { Moves self.old self.new result }
         ensures lane { self.new.lane ≡ self.old.lane }
         ensures exit { self.new.exit ≡ self.old.exit }
     {
         let mut did = false;
-        for _ in 0..=given.packet_count() {
+        for round in 0..given.packet_count() {
             let pulled = self.fill(board, given, seat);
             let Some(id) = self.hand else {
                 return did;
@@ -97,6 +101,11 @@ impl Drain {
         requires is { IsDrain given.now self.old seat.old.steps }
         ensures is { IsDrain given.now self.new seat.new.steps }
         ensures serves { Serves (this_lane self.old.lane) seat.old seat.new }
+        ensures none { self.new.hand ≡ None
+            → StopsHere (B.view board.now).sizes given.now self.new seat.old seat.new }
+        ensures empty { self.new.hand ≡ None → self.new ≡ self.old }
+        ensures did { Moves self.old self.new result }
+        ensures same { self.new ≡ record self.old { hand = self.new.hand } }
         ensures lane { self.new.lane ≡ self.old.lane }
         ensures exit { self.new.exit ≡ self.old.exit }
     {
@@ -116,6 +125,8 @@ impl Drain {
         requires table { seat.old.table ≡ (B.view board.now).table }
         requires within { self.now.lane < (B.view board.now).sizes.lanes }
         ensures looks { Looks self.now.lane seat.old seat.new }
+        ensures all { result ≡ true → FindsNone (B.view board.now).sizes self.now.lane
+            (number self.now.start self.now.retired) seat.old seat.new }
     {
         board.tail(seat, LaneId::Middle(self.lane)) == number_at(self.start, self.retired)
     }
@@ -129,6 +140,8 @@ impl Drain {
         requires empty { self.old.hand ≡ None }
         ensures is { IsDrain given.now self.new seat.new.steps }
         ensures serves { Serves (this_lane self.old.lane) seat.old seat.new }
+        ensures none { self.new.hand ≡ None → FindsNone (B.view board.now).sizes self.old.lane
+            (number self.old.start self.old.retired) seat.old seat.new }
         ensures same { self.new ≡ record self.old { hand = self.new.hand } }
     {
         match board.try_hold(seat, LaneId::Middle(self.lane)) {
@@ -157,6 +170,9 @@ impl Drain {
         requires outs { outs_of self.old.exit given.now ≤ (B.view board.now).sizes.outs }
         ensures is { IsDrain given.now self.new seat.new.steps }
         ensures serves { Serves (this_lane self.old.lane) seat.old seat.new }
+        ensures stops { result ≡ false
+            → Stops (B.view board.now).sizes given.now self.new seat.old seat.new }
+        ensures did { Moves self.old self.new result }
         ensures lane { self.new.lane ≡ self.old.lane }
         ensures exit { self.new.exit ≡ self.old.exit }
     {

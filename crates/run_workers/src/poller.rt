@@ -19,7 +19,8 @@ ghost use Rattle.steer_model.specs.Steps.Pollers.{filter_for as filter_after};
 ghost use Rattle.run_words.specs.Values.{flows_word as word_of};
 ghost use Rattle.run_words.specs.declared.hint_word.TheConstants.{FILTER_WORDS};
 ghost use Rattle.run_workers.specs.Hands.Pollers.{HasQueueSettings};
-ghost use Rattle.run_workers.specs.Hands.Pollers.{Chooses, HasLanesBelow, IsPoller, LoadsHead};
+ghost use Rattle.run_workers.specs.Hands.Pollers.{Chooses, DoesNothing, HasLanesBelow, IsPoller};
+ghost use Rattle.run_workers.specs.Hands.Pollers.{LoadsHead, TakesNone};
 ghost use Rattle.run_workers.specs.Hands.Pollers.{LooksUp};
 ghost use Rattle.run_workers.specs.Hands.Pollers.{Polls};
 ghost use Rattle.run_workers.specs.Hands.Pollers.{Puts, Steers, StoresFilter, Takes, read_steps};
@@ -157,6 +158,7 @@ impl Poller {
         requires is { IsPoller shared.now.given.cpus self.old }
         ensures polls { Polls shared.now.given shared.now.filters self.old self.new
             seat.old seat.new hint.old hint.new }
+        ensures idle { result ≡ false → DoesNothing self.old self.new }
         ensures is { IsPoller shared.now.given.cpus self.new }
         ensures ring { SameConsumer self.old.ring self.new.ring }
         ensures outside { IsOutside seat.new.steps }
@@ -183,13 +185,17 @@ impl Poller {
         requires room { IfSome self.old.hand
             (λ id. length self.old.choices.items < self.old.choices.room) }
         ensures takes { Takes self.old self.new result }
+        ensures none { result ≡ false → TakesNone self.old self.new }
         ensures hand { IfSome self.new.hand (λ id. id < self.new.choices.room) }
         ensures room { IfSome self.new.hand
             (λ id. length self.new.choices.items < self.new.choices.room) }
         ensures ring { SameConsumer self.old.ring self.new.ring }
         ensures same { self.new ≡ record self.old { hand = self.new.hand; ring = self.new.ring } }
     {
-        if self.hand.is_some() || self.choices.len() >= self.choices.room() {
+        if self.hand.is_some() {
+            return false;
+        }
+        if self.choices.len() >= self.choices.room() {
             return false;
         }
         match self.ring.pop() {

@@ -13,7 +13,8 @@ ghost use Rattle.steer_model.specs.State.Setup.{Setup, packet_hash};
 ghost use Rattle.run_words.specs.declared.hint_word.TheConstants.{QUEUE_WORDS};
 ghost use Rattle.run_workers.specs.Hands.Pollers.{HasLanesBelow, HasQueueSettings, LoadsHead};
 ghost use Rattle.run_workers.specs.Hands.Servers.{ChoosesLane, HasFlowsBelow, HasTransmitSettings};
-ghost use Rattle.run_workers.specs.Hands.Servers.{IsServer, MapsRead, Notes, Peeks, PutsReply};
+ghost use Rattle.run_workers.specs.Hands.Servers.{IsServer, LooksInVain, MapsRead, Notes, Peeks};
+ghost use Rattle.run_workers.specs.Hands.Servers.{PutsReply};
 ghost use Rattle.run_workers.specs.Hands.Servers.{Queued};
 ghost use Rattle.run_workers.specs.Hands.Servers.{ReadsMap, RepliesOrKeeps, Sends, Stands};
 ghost use Rattle.run_workers.specs.Hands.Servers.{TakesOrLeaves};
@@ -203,8 +204,10 @@ impl Server {
     fn peek<B: Board>(&self, board: &B, seat: &mut BoardSeat) -> Option<PacketId>
         requires table { seat.old.table ≡ (B.view board.now).table }
         requires app { self.now.app < (B.view board.now).sizes.outs }
-        ensures { Peeks (B.view board.now).sizes self.now.app (length self.now.sent.items) result
-            seat.old seat.new }
+        ensures peeks { Peeks (B.view board.now).sizes self.now.app (length self.now.sent.items)
+            result seat.old seat.new }
+        ensures none { result ≡ None → LooksInVain (B.view board.now).sizes self.now.app
+            self.now.start (length self.now.sent.items) seat.old seat.new }
     {
         let inbox = LaneId::Out(self.app);
         let taken = self.sent.len();

@@ -1,15 +1,15 @@
 //! The turns of a worker, from its first to its last.
-ghost use Rattle.std.specs.Prelude.{◌≡◌, ◌+◌, ◌≤◌, true, length};
+ghost use Rattle.std.specs.Prelude.{◌≡◌, true, length};
 ghost use Rattle.std.specs.List.{Contains};
 ghost use Rattle.hint_words.specs.declared.step.HintStep.TheVariants.{Load};
 ghost use Rattle.run_words.specs.declared.hint_word.TheConstants.{DONE_WORD};
 ghost use Rattle.run_words.specs.declared.values.TheConstants.{DONE as DONE_VALUE};
-ghost use Rattle.run_workers.specs.Looks.{Looks, look_count};
+ghost use Rattle.run_workers.specs.Looks.{LookedLong, Looks};
 ghost use Rattle.run_workers.specs.Stages.{stage_view};
 ghost use Rattle.run_workers.specs.Tally.{CountsOn, HasFinished, IsCounter, SawFinished};
 ghost use Rattle.run_workers.specs.Tally.{finished_by};
+ghost use Rattle.run_workers.specs.Turns.{EndsIdle};
 ghost use Rattle.run_workers.specs.Workers.{GoesOn, IsWorking, is_free};
-ghost use Rattle.run_workers.specs.declared.work.TheConstants.{MAX_IDLE_TURNS};
 
 use crate::stage::Stage;
 use crate::tally::{Counter, Tally};
@@ -57,8 +57,9 @@ impl Worker {
         ensures free { is_free self.new ≡ true }
         ensures finished { result ≡ Ended.Finished → HasFinished tally.now.workers
             (length stage.now.shared.given.packets) seats.new counter.new }
-        ensures idle { result ≡ Ended.Idle
-            → look_count seats.old.hint.steps + MAX_IDLE_TURNS ≤ look_count seats.new.hint.steps }
+        ensures last { EndsIdle (stage_view (B.view stage.now.rx) (B.view stage.now.tx)
+            stage.now.shared stage.now.late.items) self.old self.new seats.old seats.new }
+        ensures idle { result ≡ Ended.Idle → LookedLong seats.old seats.new }
     {
         let (mut turns, mut idle, mut finished) = (0u64, 0, false);
         for _ in rt.forever() {

@@ -2,6 +2,9 @@
 ghost use Rattle.std.specs.Prelude.{◌≡◌, ◌<◌, false, true, vec_len};
 ghost use Rattle.run_workers.specs.Parts.{actor_count};
 ghost use Rattle.run_workers.specs.Stages.{stage_view};
+ghost use Rattle.run_workers.specs.Turns.{AllHaveCalls, CallsOne, Drained, HasTurn};
+ghost use Rattle.run_workers.specs.Turns.{OthersStay, Plays, Polled, Replied, Served, Shipped};
+ghost use Rattle.run_workers.specs.Turns.{Took, actors};
 ghost use Rattle.run_workers.specs.Workers.{GoesOn, IsWorking, drains_are_free, is_free};
 ghost use Rattle.run_workers.specs.Workers.{pollers_are_free, servers_are_free};
 
@@ -46,6 +49,8 @@ impl Worker {
             stage.now.shared stage.now.late.items) self.old seats.old }
         ensures goes { GoesOn (stage_view (B.view stage.now.rx) (B.view stage.now.tx)
             stage.now.shared stage.now.late.items) self.old self.new seats.old seats.new }
+        ensures plays { HasTurn (stage_view (B.view stage.now.rx) (B.view stage.now.tx)
+            stage.now.shared stage.now.late.items) result self.old self.new seats.old seats.new }
         ensures idle { result ≡ false → is_free self.new ≡ true }
     {
         let polled = self.play_each(rt, stage, seats, Part::Poll);
@@ -78,6 +83,10 @@ impl Worker {
             stage.now.shared stage.now.late.items) self.old seats.old }
         ensures goes { GoesOn (stage_view (B.view stage.now.rx) (B.view stage.now.tx)
             stage.now.shared stage.now.late.items) self.old self.new seats.old seats.new }
+        ensures calls { AllHaveCalls (Plays (stage_view (B.view stage.now.rx) (B.view stage.now.tx)
+            stage.now.shared stage.now.late.items) part)
+            result (actors part self.old) (actors part self.new) seats.old seats.new }
+        ensures others { OthersStay part self.old self.new }
     {
         let mut did = false;
         for i in 0..self.count(part) {
@@ -113,6 +122,10 @@ impl Worker {
             stage.now.shared stage.now.late.items) self.old seats.old }
         ensures goes { GoesOn (stage_view (B.view stage.now.rx) (B.view stage.now.tx)
             stage.now.shared stage.now.late.items) self.old self.new seats.old seats.new }
+        ensures one { CallsOne (Plays (stage_view (B.view stage.now.rx) (B.view stage.now.tx)
+            stage.now.shared stage.now.late.items) part)
+            i result (actors part self.old) (actors part self.new) seats.old seats.new }
+        ensures others { OthersStay part self.old self.new }
     {
         match part {
             Part::Poll => self.poll(rt, stage, seats, i),
@@ -135,6 +148,10 @@ impl Worker {
             stage.now.shared stage.now.late.items) self.old seats.old }
         ensures goes { GoesOn (stage_view (B.view stage.now.rx) (B.view stage.now.tx)
             stage.now.shared stage.now.late.items) self.old self.new seats.old seats.new }
+        ensures one { CallsOne (Polled (stage_view (B.view stage.now.rx) (B.view stage.now.tx)
+            stage.now.shared stage.now.late.items))
+            i result self.old.pollers.items self.new.pollers.items seats.old seats.new }
+        ensures others { OthersStay Part.Poll self.old self.new }
     {
         self.pollers[i].poll(rt, &stage.rx, &stage.shared, &mut seats.rx, &mut seats.hint)
     }
@@ -146,6 +163,10 @@ impl Worker {
             stage.now.shared stage.now.late.items) self.old seats.old }
         ensures goes { GoesOn (stage_view (B.view stage.now.rx) (B.view stage.now.tx)
             stage.now.shared stage.now.late.items) self.old self.new seats.old seats.new }
+        ensures one { CallsOne (Drained (stage_view (B.view stage.now.rx) (B.view stage.now.tx)
+            stage.now.shared stage.now.late.items))
+            i result self.old.drains.items self.new.drains.items seats.old seats.new }
+        ensures others { OthersStay Part.Drain self.old self.new }
     {
         self.drains[i].drain(&stage.rx, &stage.shared.given, &mut seats.rx)
     }
@@ -164,6 +185,10 @@ impl Worker {
             stage.now.shared stage.now.late.items) self.old seats.old }
         ensures goes { GoesOn (stage_view (B.view stage.now.rx) (B.view stage.now.tx)
             stage.now.shared stage.now.late.items) self.old self.new seats.old seats.new }
+        ensures one { CallsOne (Served (stage_view (B.view stage.now.rx) (B.view stage.now.tx)
+            stage.now.shared stage.now.late.items))
+            i result self.old.servers.items self.new.servers.items seats.old seats.new }
+        ensures others { OthersStay Part.Serve self.old self.new }
     {
         let took = self.take(stage, seats, i);
         let replied = self.reply(rt, stage, seats, i);
@@ -177,6 +202,10 @@ impl Worker {
             stage.now.shared stage.now.late.items) self.old seats.old }
         ensures goes { GoesOn (stage_view (B.view stage.now.rx) (B.view stage.now.tx)
             stage.now.shared stage.now.late.items) self.old self.new seats.old seats.new }
+        ensures one { CallsOne (Took (stage_view (B.view stage.now.rx) (B.view stage.now.tx)
+            stage.now.shared stage.now.late.items))
+            i result self.old.servers.items self.new.servers.items seats.old seats.new }
+        ensures others { OthersStay Part.Serve self.old self.new }
     {
         self.servers[i].take(&stage.rx, &stage.shared, &mut seats.rx, &mut seats.hint)
     }
@@ -194,6 +223,10 @@ impl Worker {
             stage.now.shared stage.now.late.items) self.old seats.old }
         ensures goes { GoesOn (stage_view (B.view stage.now.rx) (B.view stage.now.tx)
             stage.now.shared stage.now.late.items) self.old self.new seats.old seats.new }
+        ensures one { CallsOne (Replied (stage_view (B.view stage.now.rx) (B.view stage.now.tx)
+            stage.now.shared stage.now.late.items))
+            i result self.old.servers.items self.new.servers.items seats.old seats.new }
+        ensures others { OthersStay Part.Serve self.old self.new }
     {
         self.servers[i].reply(
             rt,
@@ -212,6 +245,10 @@ impl Worker {
             stage.now.shared stage.now.late.items) self.old seats.old }
         ensures goes { GoesOn (stage_view (B.view stage.now.rx) (B.view stage.now.tx)
             stage.now.shared stage.now.late.items) self.old self.new seats.old seats.new }
+        ensures one { CallsOne (Shipped (stage_view (B.view stage.now.rx) (B.view stage.now.tx)
+            stage.now.shared stage.now.late.items))
+            i result self.old.ships.items self.new.ships.items seats.old seats.new }
+        ensures others { OthersStay Part.Ship self.old self.new }
     {
         self.ships[i].drain(&stage.tx, &stage.shared.given, &mut seats.tx)
     }

@@ -1,7 +1,7 @@
 -- The answers of the controller.
 use Rattle.std.proofs.Common.{◌≡◌, ◌⊎◌, inl, inr, ℕ, zero, suc, ◌<◌, ◌≤◌, List, [], ◌∷◌, ◌++◌}
 use Rattle.std.proofs.Common.{Option, Some, None, length, take, sym, refl, ap, ◌∙◌, subst, arith}
-use Rattle.std.proofs.Common.{append_assoc, length-append}
+use Rattle.std.proofs.Common.{append_assoc}
 use Rattle.std.specs.Prelude.{slice_get}
 use Rattle.steer_base.specs.Counters.{distance}
 use Rattle.steer_base.specs.declared.command.Busy.TheVariants as busy
@@ -14,7 +14,9 @@ use Rattle.hop_rule.specs.Moments.{nth_step}
 use Rattle.hop_rule.specs.Sizes.{closer}
 use Rattle.hop_rule.specs.declared.sizes.BoardSizes.{BoardSizes}
 use Rattle.hop_rule.specs.declared.step.BoardStep.{BoardStep}
-use Rattle.hop_rule.specs.declared.step.BoardStep.TheVariants.{Counted, Weighed}
+use Rattle.hop_rule.specs.declared.step.BoardStep.TheVariants.{Counted, Gate, Weighed}
+use Rattle.hop_rule.specs.declared.step.GateStep.TheVariants.{Opened, Shut}
+use Rattle.board_api.specs.Calls.Results.{looking}
 use Rattle.hop_rule.proofs.Lists.{none-some, some-is}
 use Rattle.hop_rule.proofs.Moments.{nth-last, nth-old}
 use Rattle.board_api.specs.declared.lists.BoardLists.{BoardLists}
@@ -40,15 +42,16 @@ slice-end (z ∷ xs) y (suc k) x at = elim (slice-end xs y k x at) [
   | inr new ↦ inr (ap suc new.0, new.1)
 ]
 
-record TryAt (ts : List Try) (k : ℕ) (c : Commanded) : Type 0 where
-  more : List Try
-  try : Try
-  older : List Try
-  are : ts ≡ more ++ try ∷ older
-  count : length older ≡ k
-  given : try.given ≡ c
+pub record TryAt (ts : List Try) (k : ℕ) (c : Commanded) : Type 0 where
+  pub more : List Try
+  pub try : Try
+  pub older : List Try
+  pub are : ts ≡ more ++ try ∷ older
+  pub count : length older ≡ k
+  pub given : try.given ≡ c
 
-try_at : (ts : List Try) (k : ℕ) (c : Commanded) → slice_get (given_by ts) k ≡ Some c → TryAt ts k c
+pub try_at : (ts : List Try) (k : ℕ) (c : Commanded) → slice_get (given_by ts) k ≡ Some c
+    → TryAt ts k c
 try_at [] k c at = none-some c at
 try_at (t ∷ ts) k c at = elim (slice-end (given_by ts) t.given k c at) [
   | inl old ↦
@@ -72,12 +75,12 @@ try_at (t ∷ ts) k c at = elim (slice-end (given_by ts) t.given k c at) [
       }
 ]
 
-answered-later : (i : Input) (h : History) (more ts : List Try) → AllAnswered i h (more ++ ts)
+pub answered-later : (i : Input) (h : History) (more ts : List Try) → AllAnswered i h (more ++ ts)
     → AllAnswered i h ts
 answered-later i h [] ts all = all
 answered-later i h (t ∷ more) ts all = answered-later i h more ts all.1
 
-steps-append : (f : Try → List BoardStep) (xs ys : List Try)
+pub steps-append : (f : Try → List BoardStep) (xs ys : List Try)
     → steps_of_tries f (xs ++ ys) ≡ steps_of_tries f xs ++ steps_of_tries f ys
 steps-append f [] ys = refl
 steps-append f (t ∷ ts) ys =
@@ -86,7 +89,7 @@ steps-append f (t ∷ ts) ys =
 
 -- ---- the two loads of a busy lane
 
-nth-here : {A : Type 0} (front : List A) (x : A) (back : List A)
+pub nth-here : {A : Type 0} (front : List A) (x : A) (back : List A)
     → nth_step (front ++ x ∷ back) (length back) ≡ Some x
 nth-here front x back =
     nth-old front (x ∷ back) (length back) (omega arith) ∙ nth-last x back
@@ -100,26 +103,23 @@ busy_at : (i : Input) (h : History) (lanes : List LaneList) (f : Try → List Bo
 busy_at i h lanes f tries about own lists board more t older are lane head tail b =
     let c : BoardStep = Counted lane b.tail_word in
     let w : BoardStep = Weighed lane b.head_word in
-    let past : List BoardStep = b.older ++ steps_of_tries f older in
-    let below : List BoardStep = b.between ++ w ∷ past in
-    let front : List BoardStep = steps_of_tries f more ++ b.newer in
-    let tried : f t ++ steps_of_tries f older ≡ b.newer ++ c ∷ below =
-    ap (λ z. z ++ steps_of_tries f older) b.are
-    ∙ (append_assoc b.newer (c ∷ (b.between ++ w ∷ b.older)) (steps_of_tries f older)
-    ∙ ap (λ z. b.newer ++ c ∷ z) (append_assoc b.between (w ∷ b.older) (steps_of_tries f older))) in
+    let looks : List BoardStep = looking b.looked (Gate (Shut b.word) ∷ []) in
+    let past : List BoardStep = looks ++ steps_of_tries f older in
+    let below : List BoardStep = w ∷ past in
+    let newest : List BoardStep = Gate Opened ∷ [] in
+    let front : List BoardStep = steps_of_tries f more ++ newest in
     let whole : own (closer about) ≡ front ++ c ∷ below =
     board.own_list
     ∙ (ap (steps_of_tries f) are
     ∙ (steps-append f more (t ∷ older)
-    ∙ (ap (λ z. steps_of_tries f more ++ z) tried
-    ∙ sym (append_assoc (steps_of_tries f more) b.newer (c ∷ below))))) in
-    let deep : own (closer about) ≡ (front ++ c ∷ b.between) ++ w ∷ past =
-    whole ∙ sym (append_assoc front (c ∷ b.between) (w ∷ past)) in
+    ∙ (ap (λ z. steps_of_tries f more ++ (z ++ steps_of_tries f older)) b.are
+    ∙ sym (append_assoc (steps_of_tries f more) newest (c ∷ below))))) in
+    let deep : own (closer about) ≡ (front ++ c ∷ []) ++ w ∷ past =
+    whole ∙ sym (append_assoc front (c ∷ []) (w ∷ past)) in
     let weighs : nth_step (own (closer about)) (length past) ≡ Some w =
-    ap (λ z. nth_step z (length past)) deep ∙ nth-here (front ++ c ∷ b.between) w past in
+    ap (λ z. nth_step z (length past)) deep ∙ nth-here (front ++ c ∷ []) w past in
     let counts : nth_step (own (closer about)) (length below) ≡ Some c =
     ap (λ z. nth_step z (length below)) whole ∙ nth-here front c below in
-    let size = length-append b.between (w ∷ past) in
     let r = board.busy (closer about) (length past) (length below) lane b.head_word b.tail_word
     (omega arith) weighs counts (λ e. b.apart (b.head_is ∙ (e ∙ sym b.tail_is))) in
     let all : (distance head h.start < distance tail h.start)
@@ -142,9 +142,11 @@ module _ (i : Input) (h : History) (tries : List Try) (rx tx : BoardSizes)
       → (o : Option Refused) → IsAnswered i h t o → IsAnswer i h t.given.command o t.given.answer
   answer_is more t older are (Some why) is = is
   answer_is more t older are None (inl end) = inl end
-  answer_is more t older are None (inr (inl (lanes, n, gate, is, low, high))) =
-      inr (lanes, busy.Inside n, gate, is, (low, high))
-  answer_is more t older are None (inr (inr (inl (lane, head, tail, gate, is, finds)))) =
+  answer_is more t older are None (inr (inl (gate, inl (n, is, v)))) =
+      inr (h.lanes, busy.Inside n, gate, is, (v.some, v.few))
+  answer_is more t older are None (inr (inr (gate, inl (n, is, v)))) =
+      inr (h.tx_lanes, busy.Inside n, gate, is, (v.some, v.few))
+  answer_is more t older are None (inr (inl (gate, inr (lane, head, tail, is, finds)))) =
       inr (
         h.lanes,
         busy.NotEmpty lane head tail,
@@ -153,7 +155,7 @@ module _ (i : Input) (h : History) (tries : List Try) (rx tx : BoardSizes)
         busy_at i h h.lanes at_receive tries rx rx_own rx_lists a more t older are lane head tail
             finds,
       )
-  answer_is more t older are None (inr (inr (inr (lane, head, tail, gate, is, finds)))) =
+  answer_is more t older are None (inr (inr (gate, inr (lane, head, tail, is, finds)))) =
       inr (
         h.tx_lanes,
         busy.NotEmpty lane head tail,

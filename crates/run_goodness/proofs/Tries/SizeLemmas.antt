@@ -12,7 +12,9 @@ use Rattle.steer_base.specs.declared.command.Refused.{Refused}
 use Rattle.steer_base.specs.declared.command.Refused.TheVariants as refused
 use Rattle.history.specs.declared.commanded.Commanded.{Commanded}
 use Rattle.history.specs.declared.history.History.{History}
+use Rattle.history.specs.declared.lane_list.LaneList.{LaneList}
 use Rattle.hop_rule.specs.Moments.{nth_step}
+use Rattle.hop_rule.specs.declared.step.BoardStep.{BoardStep}
 use Rattle.hop_rule.proofs.Moments.{nth-last, nth-old}
 use Rattle.steer_model.specs.Good.Inputs.{Input, WasDone}
 use Rattle.steer_model.specs.Good.Writes.{IsSize}
@@ -20,7 +22,7 @@ use Rattle.steer_model.specs.State.Settings.{Settings, changed}
 use Rattle.steer_model.specs.State.Start.{initial_settings}
 use Rattle.steer_model.specs.Good.Commands.{refused_with}
 use Rattle.steer_model.specs.Steps.Commands.{is_done}
-use Rattle.run_coupling.specs.Coupling.Answers.{AllAnswered, IsAnswered}
+use Rattle.run_coupling.specs.Coupling.Answers.{AllAnswered, IsAnswered, IsBusyAt}
 use Rattle.run_coupling.specs.Coupling.Tries.{Try, settings_by}
 use Rattle.run_words.specs.Lists.{oldest_first}
 use Rattle.run_coupling.proofs.Runs.TurnListLemmas.{nth-oldest}
@@ -39,6 +41,12 @@ given-at h tries more older t commands parts =
     ∙ nth-last t.given (map f older)))) in
     ap (λ cs. slice_get cs (length older)) commands
     ∙ (nth-oldest (map f tries) (length older) ∙ here)
+
+-- a command that met a busy board was not done
+unfinished : (i : Input) (lanes : List LaneList) (steps : List BoardStep) (g : Commanded)
+    → IsBusyAt i lanes steps g → is_done g.answer ≡ false
+unfinished i lanes steps g (inl b) = ap is_done b.1
+unfinished i lanes steps g (inr b) = ap is_done b.3
 
 -- a done command for the size was answered done
 done-answer : (i : Input) (h : History) (t : Try) (n : ℕ) (o : Option Refused)
@@ -61,17 +69,13 @@ done-answer i h t n (Some refused.AlreadyOnline) is done answer =
     apart e = absurd (cc)
 done-answer i h t n None is done (inl end) =
     subst (λ c. Rattle.steer_model.specs.Good.Commands.IsEnd i c t.given.answer) is end
-done-answer i h t n None is done (inr (inl b)) = absurd (apart (sym (ap is_done b.3) ∙ done))
+done-answer i h t n None is done (inr (inl (gate, at))) =
+    absurd (apart (sym (unfinished i h.lanes t.rx_steps t.given at) ∙ done))
   where
     apart : false ≡ true → ⊥
     apart e = absurd (cc)
-done-answer i h t n None is done (inr (inr (inl b))) =
-    absurd (apart (sym (ap is_done b.4) ∙ done))
-  where
-    apart : false ≡ true → ⊥
-    apart e = absurd (cc)
-done-answer i h t n None is done (inr (inr (inr b))) =
-    absurd (apart (sym (ap is_done b.4) ∙ done))
+done-answer i h t n None is done (inr (inr (gate, at))) =
+    absurd (apart (sym (unfinished i h.tx_lanes t.tx_steps t.given at) ∙ done))
   where
     apart : false ≡ true → ⊥
     apart e = absurd (cc)

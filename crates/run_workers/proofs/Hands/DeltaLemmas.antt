@@ -1,6 +1,7 @@
 -- Steps that a hand adds, and steps one after another.
-use Rattle.std.proofs.Common.{◌≡◌, ℕ, ◌==◌, List, [], ◌∷◌, ◌++◌, None, Some, Option, refl, sym, ap}
-use Rattle.std.proofs.Common.{subst, ◌∙◌, true, false, Bool, if◌then◌else◌, append_assoc}
+use Rattle.std.proofs.Common.{◌≡◌, ◌⊎◌, inl, inr, ℕ, ◌==◌, List, [], ◌∷◌, ◌++◌, None, Some, Option}
+use Rattle.std.proofs.Common.{refl, sym, ap, subst, ◌∙◌, true, false, Bool, if◌then◌else◌}
+use Rattle.std.proofs.Common.{append_assoc}
 use Rattle.std.proofs.lemmas.List.Elements.{filter_map-append}
 use Rattle.steer_base.specs.Lanes.{LaneLists}
 use Rattle.hop_rule.specs.Boards.{lane_steps, out_slot}
@@ -28,6 +29,15 @@ pub none_either : {A : Type 0} (b : Bool) (x y : Option A) → x ≡ None
     → (if b then None else (if b then y else x)) ≡ None
 none_either true x y e = refl
 none_either false x y e = e
+
+-- what was left or done, without the reasons
+pub without_reason : {A B C : Type 0} → (A × B) ⊎ C → B ⊎ C
+without_reason (inl both) = inl both.1
+without_reason (inr out) = inr out
+
+pub without_reasons : {A B C E : Type 0} → (A × B) ⊎ (C × E) → B ⊎ E
+without_reasons (inl both) = inl both.1
+without_reasons (inr both) = inr both.1
 
 -- ---- steps of one hold
 

@@ -26,6 +26,7 @@ use Rattle.run_workers.specs.Hands.Servers.{TakesNext, TakesOrLeaves, Writes}
 use Rattle.run_workers.specs.declared.drain.Drain.{Drain}
 use Rattle.run_workers.specs.declared.server.Server.{Server}
 use Rattle.run_workers.proofs.Hands.DrainLemmas.{stays_drain}
+use Rattle.run_workers.proofs.Hands.DeltaLemmas.{without_reasons}
 
 abbrev Hint : Type 0
 Hint = SeatView HintStep
@@ -72,11 +73,6 @@ calm_gate : (old new : BoardSeatView) → (new ≡ old) ⊎ BacksOut old new →
 calm_gate old new (inl same) = calm_none old new same
 calm_gate old new (inr out) = calm_out old new out
 
-calm_kept : {A : Type 0} (old new : BoardSeatView) → (new ≡ old) ⊎ (A × BacksOut old new)
-    → Calm old new
-calm_kept old new (inl same) = calm_none old new same
-calm_kept old new (inr out) = calm_out old new out.1
-
 calm_record : (word size q : ℕ) (old new : BoardSeatView)
     → Adds (Gate Left ∷ Gate (Read q size) ∷ Gate (Entered word) ∷ []) old new → Calm old new
 calm_record word size q old new adds =
@@ -91,10 +87,10 @@ calm_record word size q old new adds =
 
 module _ (about : BoardSizes) (given : Setup) (s t : Server) (old new : BoardSeatView)
     (hint_old hint_new : Hint) where
-  left_drain : (d : Drain) → LeavesInbox s t old new hint_old hint_new
+  left_drain : (d : Drain) → LeavesInbox about s t old new hint_old hint_new
       → IsDrain given d old.steps → IsDrain given d new.steps
   left_drain d x is =
-      calm_drain given d x.mid new (calm_gate x.mid new x.gate)
+      calm_drain given d x.mid new (calm_gate x.mid new (without_reasons x.gate))
       (calm_drain given d old x.mid (record {
         added = x.looks.added;
         adds = x.looks.adds;
@@ -102,10 +98,10 @@ module _ (about : BoardSizes) (given : Setup) (s t : Server) (old new : BoardSea
         leaves = λ l. x.looks.only.others l refl;
       }) is)
 
-  left_explains : LeavesInbox s t old new hint_old hint_new → (ts : _) → Explained old.steps ts
-      → Explained new.steps ts
+  left_explains : LeavesInbox about s t old new hint_old hint_new → (ts : _)
+      → Explained old.steps ts → Explained new.steps ts
   left_explains x ts is =
-      calm_explains x.mid new (calm_gate x.mid new x.gate) ts
+      calm_explains x.mid new (calm_gate x.mid new (without_reasons x.gate)) ts
       (calm_explains old x.mid (record {
         added = x.looks.added;
         adds = x.looks.adds;
@@ -165,7 +161,7 @@ replies_drain given late d s t true old new hint_old hint_new x is =
     subst (IsDrain given d) (sym (ap (λ (v : BoardSeatView). v.steps) x.replies.adds))
     (stays_drain given d (visit_with x.turn [] []) old.steps (x.replies.leaves d.lane) is)
 replies_drain given late d s t false old new hint_old hint_new x is =
-    calm_drain given d old new (calm_kept old new x.gate) is
+    calm_drain given d old new (calm_gate old new (without_reasons x.gate)) is
 
 pub applications_leave_drains : ApplicationsLeaveDrains
 applications_leave_drains = record { takes = takes_drain; replies = replies_drain }
@@ -175,7 +171,7 @@ applications_explain =
     record {
       takes = takes_explain;
       keeps = λ queues late s t old new hint_old hint_new x ts is.
-          calm_explains old new (calm_kept old new x.gate) ts is;
+          calm_explains old new (calm_gate old new (without_reasons x.gate)) ts is;
       replies = λ given a home sent before after turn old new hint_old hint_new x ts is.
           subst (λ ds. Explained ds (step_by a turn ∷ ts))
           (sym (ap (λ (v : BoardSeatView). v.steps) x.adds
@@ -226,9 +222,9 @@ takes_stay about given s t false old new hint_old hint_new x =
       app = ap (λ (v : Server). v.app) x.same;
       home = ap (λ (v : Server). v.home) x.same;
       room = ap (λ (v : Server). v.sent.room) x.same;
-      table = gate_table x.mid new (calm_gate x.mid new x.gate)
+      table = gate_table x.mid new (calm_gate x.mid new (without_reasons x.gate))
           ∙ ap (λ (v : BoardSeatView). v.table) x.looks.adds;
-      number = gate_number x.mid new (calm_gate x.mid new x.gate)
+      number = gate_number x.mid new (calm_gate x.mid new (without_reasons x.gate))
           ∙ ap (λ (v : BoardSeatView). v.number) x.looks.adds;
       hint_table = ap (λ (h : Hint). h.table) x.hint;
     }
@@ -252,8 +248,8 @@ replies_stay given late s t false old new hint_old hint_new x =
       app = ap (λ (v : Server). v.app) x.same;
       home = ap (λ (v : Server). v.home) x.same;
       room = ap (λ (v : Server). v.sent.room) x.same;
-      table = gate_table old new (calm_kept old new x.gate);
-      number = gate_number old new (calm_kept old new x.gate);
+      table = gate_table old new (calm_gate old new (without_reasons x.gate));
+      number = gate_number old new (calm_gate old new (without_reasons x.gate));
       hint_table = kept_hint _ late s.hand hint_old hint_new x.queue x.hint x.untouched;
     }
 

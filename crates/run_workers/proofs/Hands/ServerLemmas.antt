@@ -1,10 +1,11 @@
 -- What an application's seat does at its inbox.
-use Rattle.std.proofs.Common.{◌≡◌, ℕ, ◌+◌, ◌≤◌, ◌<◌, List, [], ◌∷◌, ◌++◌, Option}
-use Rattle.std.proofs.Common.{None, Some, IfSome, refl, ap, subst, ◌∙◌, length, length-append}
+use Rattle.std.proofs.Common.{◌≡◌, inl, inr, ℕ, ◌+◌, ◌≤◌, ◌<◌, true, List, [], ◌∷◌, ◌++◌, Option}
+use Rattle.std.proofs.Common.{None, Some, IfSome, refl, sym, ap, subst, ◌∙◌, length, length-append}
 use Rattle.std.proofs.Common.{arith}
 use Rattle.std.proofs.lemmas.List.Elements.{Contains-append_left, Contains-append_right}
 use Rattle.std.proofs.lemmas.List.Elements.{Contains-push}
 use Rattle.linearization.specs.Seats.{SeatView}
+use Rattle.steer_base.specs.Counters.{number}
 use Rattle.steer_base.specs.Journals.{Journal}
 use Rattle.history.specs.declared.sock_write.SockWrite.{SockWrite}
 use Rattle.hint_words.specs.declared.step.HintStep.{HintStep}
@@ -17,17 +18,19 @@ use Rattle.hop_rule.specs.declared.step.BoardStep.TheVariants.{Lane, LaneIn, Lan
 use Rattle.hop_rule.specs.declared.step.LaneStep.TheVariants.{OutFreed, OutHeld, OutMissed}
 use Rattle.board_api.specs.Calls.Results.{BackTells, ReadTells, TailTells, Took}
 use Rattle.board_api.specs.Seats.{BoardSeatView, Adds}
+use Rattle.board_api.specs.StepWords.{is_odd}
 use Rattle.board_api.specs.declared.held_lane.HeldLane.{HeldLane}
 use Rattle.board_api.specs.declared.held_lane.HeldLane.TheVariants as held
 use Rattle.board_api.specs.declared.held_lane.LaneId.TheVariants as id
 use Rattle.board_api.proofs.AddedSteps.{quiet_steps_stay}
 use Rattle.hop_delivery.specs.Orders.Turns.{AreQuiet}
 use Rattle.steer_model.specs.State.Setup.{Setup}
-use Rattle.run_workers.specs.Hands.Deltas.{OnlyServes, no_lane}
-use Rattle.run_workers.specs.Hands.Servers.{FoundAt, IsServer, Notes, Peeks, Writes, in_hand}
+use Rattle.run_workers.specs.Hands.Deltas.{OnlyServes, Serves, no_lane}
+use Rattle.run_workers.specs.Hands.Servers.{FoundAt, IsServer, LooksInVain, Notes, Peeks, Writes}
+use Rattle.run_workers.specs.Hands.Servers.{in_hand}
 use Rattle.run_workers.specs.declared.server.Server.{Server}
 use Rattle.run_workers.proofs.Hands.DeltaLemmas.{adds_both, leaves_each, out_held_steps, serve_both}
-use Rattle.run_workers.proofs.Hands.DeltaLemmas.{serve_out_back, serve_out_missed}
+use Rattle.run_workers.proofs.Hands.DeltaLemmas.{serve_out_back, serve_out_missed, stays}
 
 -- ---- a look at the inbox
 
@@ -105,6 +108,45 @@ module _ (about : BoardSizes) (o n : ℕ) (a b : BoardSeatView) (tail : ℕ)
             (adds_both b c d ends holds t.step gives);
         found = found_there t.word content answer told;
       }
+
+-- ---- a look in vain
+
+module _ (about : BoardSizes) (o start n : ℕ) (a b : BoardSeatView) (tail : ℕ)
+    (counts : TailTells (id.Out o) a b tail) where
+  counted : Serves no_lane a b
+  counted =
+      record {
+        added = OutCounted o counts.0 ∷ [];
+        only = serve_out_counted o counts.0;
+        adds = counts.2;
+      }
+
+  -- the lane had no more packets
+  pub vain_none : tail ≡ number start n → LooksInVain about o start n a b
+  vain_none same = (a, stays no_lane a, inl (counts.0, sym counts.1 ∙ same, counts.2))
+
+  -- another seat held the lane
+  pub vain_held : (c : BoardSeatView) (word : ℕ) → is_odd word ≡ true
+      → Adds (Lane (OutMissed o word) ∷ []) b c → LooksInVain about o start n a c
+  vain_held c word odd missed = (b, counted, inr (inl (word, odd, missed)))
+
+  -- the lane was held and had no such packet
+  pub vain_read : (c d : BoardSeatView) (h : HeldLane) (answer : Option ℕ)
+      → Took about (id.Out o) b c h → BackTells about h c d → ReadTells about h n answer
+      → answer ≡ None → LooksInVain about o start n a d
+  vain_read c d (held.Middle i content) answer took back told none = absurd took
+  vain_read c d (held.Out i content) answer took back told none = (
+    b,
+    counted,
+    inr (inr (
+      content,
+      c,
+      subst (ReadTells about (held.Out i content) n) none told,
+      took.1,
+      subst (λ (k : ℕ). Adds (Lane (OutFreed k) ∷ LaneIn (out_slot about k) ∷ []) c d) took.0
+          back,
+    )),
+  )
 
 -- ---- at the gate
 

@@ -19,6 +19,7 @@ use Rattle.run_workers.specs.Hands.Pollers.{AsksFilter, LooksUp, Polls, SteersHa
 use Rattle.run_workers.specs.Hands.Pollers.{StoresFilter, Waits, count_after}
 use Rattle.run_workers.specs.Tally.{dropped_by}
 use Rattle.run_workers.specs.declared.poller.Poller.{Poller}
+use Rattle.run_workers.proofs.Hands.DeltaLemmas.{without_reason}
 
 abbrev Hint : Type 0
 Hint = SeatView HintStep
@@ -67,8 +68,8 @@ polls_stay given filters p q old new hint_old hint_new polls = by_case polls.ste
           queue = ap (λ (x : Poller). x.queue) from ∙ ap (λ (x : Poller). x.queue) polls.same;
           room = ap (λ (x : Poller). x.choices.room) from
               ∙ ap (λ (x : Poller). x.choices.room) polls.same;
-          table = waited_table waits.steps;
-          number = waited_number waits.steps;
+          table = waited_table (without_reason waits.steps);
+          number = waited_number (without_reason waits.steps);
           hint_table = ap (λ (s : Hint). s.table) waits.hint;
         }
     by_case (inr (id, hand, steers)) =

@@ -35,6 +35,7 @@ use Rattle.run_workers.specs.Hands.Pollers.{refreshed}
 use Rattle.run_workers.specs.declared.poller.Reading.{Reading}
 use Rattle.run_workers.proofs.Hands.ChoiceLemmas.{class_stays}
 use Rattle.run_workers.proofs.Hands.DrainLemmas.{stays_drain}
+use Rattle.run_workers.proofs.Hands.DeltaLemmas.{without_reason}
 use Rattle.run_workers.proofs.Hands.DeltaLemmas.{adds_both, holds_both, leaves_both, quiet_both}
 
 -- steps at the gate and of loads hold and serve nothing
@@ -293,7 +294,7 @@ polls_leave given d filters p q old new hint_old hint_new polls is = by_case pol
         ⊎ ((id : ℕ) × (polls.mid.hand ≡ Some id)
         × SteersHand given filters id polls.mid q old new hint_old hint_new)
         → IsDrain given d new.steps
-    by_case (inl waits) = by_steps waits.steps
+    by_case (inl waits) = by_steps (without_reason waits.steps)
     by_case (inr (id, hand, steers)) =
         leaves_drain given d (visit_with steers.turn [] []) old new steers.visit.adds
         (steers.visit.leaves d.lane) is

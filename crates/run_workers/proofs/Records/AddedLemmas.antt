@@ -1,26 +1,26 @@
 -- The calls of a hand add steps to the lists of its seats.
 use Rattle.std.proofs.Common.{◌≡◌, ◌⊎◌, inl, inr, ℕ, ◌*◌, Bool, true, false, [], ◌∷◌, Some}
-use Rattle.std.proofs.Common.{ap}
 use Rattle.linearization.specs.Seats.{SeatView}
 use Rattle.history.specs.declared.arrival.Arrival.{Arrival}
 use Rattle.std.specs.Prelude.{List, length}
 use Rattle.hint_words.specs.declared.step.HintStep.{HintStep}
 use Rattle.hop_rule.specs.declared.sizes.BoardSizes.{BoardSizes}
 use Rattle.hop_rule.specs.declared.step.BoardStep.TheVariants.{Gate}
-use Rattle.hop_rule.specs.declared.step.GateStep.TheVariants.{Entered, Left, Read, Turned}
+use Rattle.hop_rule.specs.declared.step.GateStep.TheVariants.{Entered, Left, Read}
 use Rattle.board_api.specs.Seats.{BoardSeatView}
 use Rattle.hop_delivery.specs.Orders.Turns.{visit_with}
 use Rattle.steer_model.specs.State.Setup.{Setup}
 use Rattle.run_workers.specs.Hands.Pollers.{SteersHand, Waits}
-use Rattle.run_workers.specs.Hands.Servers.{BacksOut, RepliesOrKeeps, TakesOrLeaves}
+use Rattle.run_workers.specs.Hands.Servers.{RepliesOrKeeps, TakesOrLeaves}
 use Rattle.run_workers.specs.declared.poller.Poller.{Poller}
 use Rattle.run_workers.specs.declared.server.Server.{Server}
 use Rattle.run_workers.specs.Records.Growth.{Grows}
 use Rattle.run_workers.specs.Records.ReplyingLaws.{CallsAddSteps}
 use Rattle.run_workers.proofs.Records.HeldLemmas.{writes_grow}
 use Rattle.run_workers.proofs.Records.HintLemmas.{polls_keep_hints, steps_one, steps_same}
-use Rattle.run_workers.proofs.Records.ListLemmas.{grows_both, grows_same}
+use Rattle.run_workers.proofs.Records.ListLemmas.{grows_both}
 use Rattle.run_workers.proofs.Records.ReplyingLemmas.{adds_grow, gate_grow, kept_grow}
+use Rattle.run_workers.proofs.Hands.DeltaLemmas.{without_reason, without_reasons}
 
 abbrev Hint : Type 0
 Hint = SeatView HintStep
@@ -30,7 +30,8 @@ polls_grow : (given : Setup) (filters : ℕ) (mid q : Poller) (old new : BoardSe
     ⊎ ((id : ℕ) × (mid.hand ≡ Some id) × SteersHand given filters id mid q old new hint_old
     hint_new)
     → Grows old.steps new.steps
-polls_grow given filters mid q old new hint_old hint_new (inl waits) = gate_grow old new waits.steps
+polls_grow given filters mid q old new hint_old hint_new (inl waits) = gate_grow old new
+    (without_reason waits.steps)
 polls_grow given filters mid q old new hint_old hint_new (inr (id, hand, steers)) =
     adds_grow (visit_with steers.turn [] []) old new steers.visit.adds
 
@@ -46,16 +47,9 @@ takes_grow about given s t true old new hint_old hint_new x = (
 )
 takes_grow about given s t false old new hint_old hint_new x = (
   grows_both old.steps x.mid.steps new.steps (adds_grow x.looks.added old x.mid x.looks.adds)
-      (gate_grow x.mid new x.gate),
+      (gate_grow x.mid new (without_reasons x.gate)),
   steps_same hint_old hint_new x.hint,
 )
-
-kept_seat : {A : Type 0} (old new : BoardSeatView) → (new ≡ old) ⊎ (A × BacksOut old new)
-    → Grows old.steps new.steps
-kept_seat old new (inl same) =
-    grows_same old.steps new.steps (ap (λ (v : BoardSeatView). v.steps) same)
-kept_seat old new (inr out) =
-    adds_grow (Gate Left ∷ Gate (Turned out.1.0) ∷ []) old new out.1.1
 
 replies_grow : (given : Setup) (late : List Arrival) (s t : Server) (sent : Bool)
     (old new : BoardSeatView) (hint_old hint_new : Hint)
@@ -68,7 +62,7 @@ replies_grow given late s t true old new hint_old hint_new x = (
       (steps_one _ x.hint_mid hint_new x.replies.stands.2),
 )
 replies_grow given late s t false old new hint_old hint_new x = (
-  kept_seat old new x.gate,
+  gate_grow old new (without_reasons x.gate),
   kept_grow (length given.homes) late s.hand hint_old hint_new x.queue x.hint x.untouched,
 )
 

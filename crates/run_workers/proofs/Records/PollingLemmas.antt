@@ -1,4 +1,5 @@
 -- A poller's record of its turns, after a poll and beside other actors.
+use Rattle.std.proofs.Common.{is_some}
 use Rattle.std.proofs.Common.{◌≡◌, ◌⊎◌, inl, inr, ℕ, ◌<◌, List, [], ◌∷◌, ◌++◌, Bool, true, false}
 use Rattle.std.proofs.Common.{None, Some, IfSome, if◌then◌else◌, map, sym, refl, ap, ◌∙◌}
 use Rattle.std.proofs.Common.{subst, arith}
@@ -34,6 +35,7 @@ use Rattle.run_workers.proofs.Records.StoringLemmas.{visit_stores}
 use Rattle.run_workers.proofs.Records.HintLemmas.{asks_stay, looked_stays, looked_up}
 use Rattle.run_workers.proofs.Records.HintLemmas.{polls_keep_hints}
 use Rattle.run_workers.proofs.Records.ListLemmas.{append_none, noted_more, own_turn}
+use Rattle.run_workers.proofs.Hands.DeltaLemmas.{without_reason}
 
 abbrev Hint : Type 0
 Hint = SeatView HintStep
@@ -164,6 +166,7 @@ module _ (given : Setup) (filters first start id : ℕ) (mid q : Poller) (turns 
         mid = mid;
         took = false;
         takes = (refl, refl);
+        none = λ same. inl (ap is_some hand);
         same = refl;
         steers = inr (id, hand, steers);
       })
@@ -253,7 +256,7 @@ waits_on given filters first start mid q turns old new hint_old hint_new waits e
     record {
       more = turns;
       grow = inl refl;
-      explained = still waits.steps;
+      explained = still (without_reason waits.steps);
       keeps = subst (λ (z : Poller × List HintStep). IsPolling given first start z.0 turns z.1)
           (λ i. (
             sym waits.same i,

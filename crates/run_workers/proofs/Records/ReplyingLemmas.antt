@@ -44,6 +44,7 @@ use Rattle.run_workers.proofs.Records.ListLemmas.{append_none, contains_later, g
 use Rattle.run_workers.proofs.Records.ListLemmas.{grows_same, noted_more}
 use Rattle.run_workers.proofs.Records.ListLemmas.{own_turn}
 use Rattle.run_workers.proofs.Records.WordLemmas.{AreRead, words_of}
+use Rattle.run_workers.proofs.Hands.DeltaLemmas.{without_reasons}
 
 abbrev Hint : Type 0
 Hint = SeatView HintStep
@@ -173,7 +174,7 @@ gate_grow old new (inr out) = adds_grow (Gate Left ∷ Gate (Turned out.0) ∷ [
 module _ (about : BoardSizes) (given : Setup) (rows start : ℕ) (arrivals : List Arrival)
     (s t : Server) (turns : List (StepBy Turn)) (old new : BoardSeatView)
     (hint_old hint_new : Hint) where
-  takes_nothing : LeavesInbox s t old new hint_old hint_new
+  takes_nothing : LeavesInbox about s t old new hint_old hint_new
       → IsReplying given rows start arrivals s turns old.steps hint_old.steps
       → IsReplying given rows start arrivals t turns new.steps hint_new.steps
   takes_nothing leaves x =
@@ -183,7 +184,7 @@ module _ (about : BoardSizes) (given : Setup) (rows start : ℕ) (arrivals : Lis
       hint_new.steps refl
       (grows_both old.steps leaves.mid.steps new.steps
       (adds_grow leaves.looks.added old leaves.mid leaves.looks.adds)
-      (gate_grow leaves.mid new leaves.gate))
+      (gate_grow leaves.mid new (without_reasons leaves.gate)))
       (steps_same hint_old hint_new leaves.hint) x)
 
   module _ (takes : TakesNext about given s t old new hint_old hint_new)

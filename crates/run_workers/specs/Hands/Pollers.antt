@@ -2,10 +2,10 @@
 -- packet (kernel scaling chapter, sections RPS and RFS).
 use Rattle.std.specs.Prelude.{◌≡◌, ◌⊎◌, ℕ, ◌+◌, ◌*◌, ◌<◌, ◌≤◌, ◌==◌, Bool, true, false}
 use Rattle.std.specs.Prelude.{List, [], ◌∷◌, ◌++◌, Option, Some, nat_lt}
-use Rattle.std.specs.Prelude.{None, length, slice_index, unwrap_or, IfSome, if◌then◌else◌}
+use Rattle.std.specs.Prelude.{None, length, slice_index, unwrap_or, IfSome, IsSome, if◌then◌else◌}
 use Rattle.std.specs.List.{Contains}
 use Rattle.std.specs.Option.{is_some}
-use Rattle.rtrb.specs.Ring.{received}
+use Rattle.rtrb.specs.Ring.{known_items, received}
 use Rattle.linearization.specs.Seats.{SeatView}
 use Rattle.steer_base.specs.Arrivals.{filter_place}
 use Rattle.steer_base.specs.Choices.{class_of, desired_cpu, looks_at_head, migrate}
@@ -265,13 +265,24 @@ Takes p q true =
     (x : ℕ) × (p.hand ≡ None) × (received q.ring ≡ received p.ring ++ x ∷ [])
     × (q.hand ≡ (if nat_lt x p.choices.room then Some x else None))
 
--- A poller steered nothing and keeps its hand: its seat did nothing, or found the gate closed and
--- backed out.
+-- A poller had nothing to take: its hand was not empty, or it had no room for a choice, or it knows
+-- no number in its ring that it has not taken. A ring tells no more of a try that gets none.
+abbrev pub TakesNone : Poller → Poller → Type 0
+TakesNone p q =
+    IsSome p.hand ⊎ (p.choices.room ≤ length p.choices.items) ⊎ (known_items q.ring ≡ [])
+
+-- A poller steered nothing and keeps its hand: the hand was empty, or its seat found the gate
+-- closed and backed out.
 pub record Waits (p q : Poller) (old new : BoardSeatView) (hint_old hint_new : SeatView HintStep)
     : Type 0 where
   pub same : q ≡ p
   pub hint : hint_new ≡ hint_old
-  pub steps : (new ≡ old) ⊎ ((word : ℕ) × Adds (Gate Left ∷ Gate (Turned word) ∷ []) old new)
+  pub steps : ((p.hand ≡ None) × (new ≡ old))
+      ⊎ ((word : ℕ) × Adds (Gate Left ∷ Gate (Turned word) ∷ []) old new)
+
+-- Neither was a number taken nor a packet steered.
+abbrev pub DoesNothing : Poller → Poller → Type 0
+DoesNothing p q = (received q.ring ≡ received p.ring) × (q.choices ≡ p.choices)
 
 -- A poller steered the packet in its hand in one visit, and noted the choice.
 pub record SteersHand (given : Setup) (filters id : ℕ) (p q : Poller) (old new : BoardSeatView)
@@ -295,6 +306,7 @@ pub record Polls (given : Setup) (filters : ℕ) (p q : Poller) (old new : Board
   pub mid : Poller
   pub took : Bool
   pub takes : Takes p mid took
+  pub none : took ≡ false → TakesNone p mid
   pub same : mid ≡ record p { hand = mid.hand; ring = mid.ring }
   pub steers : Waits mid q old new hint_old hint_new
       ⊎ ((id : ℕ) × (mid.hand ≡ Some id)

@@ -8,6 +8,7 @@ use Rattle.std.specs.List.{Contains}
 use Rattle.std.specs.Option.{is_some}
 use Rattle.linearization.specs.Seats.{SeatView}
 use Rattle.steer_base.specs.Choices.{class_of, looks_at_head, migrate}
+use Rattle.steer_base.specs.Counters.{number}
 use Rattle.steer_base.specs.Journals.{Journal, grown}
 use Rattle.steer_base.specs.declared.choice.Choice.{Choice}
 use Rattle.steer_base.specs.declared.limits.TheConstants.{MAX_PACKETS}
@@ -20,14 +21,16 @@ use Rattle.dev_flow_table.specs.Tables.{Table, entries, weighed}
 use Rattle.xps_map.specs.Maps.{Maps, no_cpus, picked}
 use Rattle.hint_words.specs.declared.step.HintStep.{HintStep}
 use Rattle.hint_words.specs.declared.step.HintStep.TheVariants.{Load, Store}
+use Rattle.hop_rule.specs.Boards.{out_slot}
 use Rattle.hop_rule.specs.OutLanes.{OutList}
 use Rattle.hop_rule.specs.declared.sizes.BoardSizes.{BoardSizes}
 use Rattle.hop_rule.specs.declared.step.BoardStep.{BoardStep}
-use Rattle.hop_rule.specs.declared.step.BoardStep.TheVariants.{Gate, Lane}
+use Rattle.hop_rule.specs.declared.step.BoardStep.TheVariants.{Gate, Lane, LaneIn, OutCounted}
 use Rattle.hop_rule.specs.declared.step.GateStep.TheVariants.{Entered, Left, Read, Turned}
-use Rattle.hop_rule.specs.declared.step.LaneStep.TheVariants.{OutHeld}
+use Rattle.hop_rule.specs.declared.step.LaneStep.TheVariants.{OutFreed, OutHeld, OutMissed}
+use Rattle.board_api.specs.Calls.Results.{TookOut}
 use Rattle.board_api.specs.Seats.{BoardSeatView, Adds}
-use Rattle.board_api.specs.StepWords.{is_marked}
+use Rattle.board_api.specs.StepWords.{is_marked, is_odd, tail_in}
 use Rattle.hop_delivery.specs.Orders.Turns.{AreQuiet, Turn, visit_with}
 use Rattle.steer_model.specs.State.Setup.{Setup, flow_number_of, packet_hash}
 use Rattle.run_words.specs.Values.{cpus_in, place_in, place_word, queues_in, socket_size_in}
@@ -58,6 +61,23 @@ pub record Peeks (about : BoardSizes) (o n : ℕ) (answer : Option ℕ) (old new
   pub only : OnlyServes no_lane added
   pub adds : Adds added old new
   pub found : IfSome answer (λ id. FoundAt about o n id added)
+
+-- The seat saw no packet at index n of the out lane o: it loaded the lane's word, whose tail was
+-- this count; or another seat held the lane; or the lane that it took had no such packet.
+abbrev pub SeesNone : BoardSizes → (o n count : ℕ) → BoardSeatView → BoardSeatView → Type 0
+SeesNone about o n count old new =
+    ((word : ℕ) × (tail_in word ≡ count) × Adds (OutCounted o word ∷ []) old new)
+    ⊎ ((word : ℕ) × (is_odd word ≡ true) × Adds (Lane (OutMissed o word) ∷ []) old new)
+    ⊎ ((content : OutList) × (mid : BoardSeatView) × (slice_get content.items n ≡ None)
+    × TookOut about o content old mid
+    × Adds (Lane (OutFreed o) ∷ LaneIn (out_slot about o) ∷ []) mid new)
+
+-- A seat looked in vain for the packet at index n of the out lane o, whose counters start at the
+-- number `start`: the last that it did shows so.
+abbrev pub LooksInVain : BoardSizes → (o start n : ℕ) → BoardSeatView → BoardSeatView → Type 0
+LooksInVain about o start n old new =
+    (mid : BoardSeatView) × Serves no_lane old mid
+    × SeesNone about o n (number start n) mid new
 
 -- ---- the record
 
@@ -100,14 +120,24 @@ pub record Records (given : Setup) (id app home : ℕ) (before after : Journal S
 abbrev pub BacksOut : BoardSeatView → BoardSeatView → Type 0
 BacksOut old new = (word : ℕ) × Adds (Gate Left ∷ Gate (Turned word) ∷ []) old new
 
--- An application took nothing: at most its seat looked for a packet and found the gate closed.
-pub record LeavesInbox (s t : Server) (old new : BoardSeatView) (hint_old hint_new : HintView)
-    : Type 0 where
+-- An application has nothing to take: its hand is not empty, or it has no room for a reply, or its
+-- seat looked for the next packet in vain.
+abbrev pub HasNoNext : BoardSizes → Server → BoardSeatView → BoardSeatView → Type 0
+HasNoNext about s old new =
+    IsSome s.hand ⊎ (s.sent.room ≤ length s.sent.items)
+    ⊎ LooksInVain about s.app s.start (length s.sent.items) old new
+
+-- An application took nothing: it had nothing to take, or it found its next packet and the gate
+-- closed.
+pub record LeavesInbox (about : BoardSizes) (s t : Server) (old new : BoardSeatView)
+    (hint_old hint_new : HintView) : Type 0 where
   pub same : t ≡ s
   pub hint : hint_new ≡ hint_old
   pub mid : BoardSeatView
   pub looks : Serves no_lane old mid
-  pub gate : (new ≡ mid) ⊎ BacksOut mid new
+  pub gate : (HasNoNext about s old mid × (new ≡ mid))
+      ⊎ (((id : ℕ) × Peeks about s.app (length s.sent.items) (Some id) old mid)
+      × BacksOut mid new)
 
 -- An application with an empty hand found its next packet in its inbox, at the index of its number
 -- of replies, recorded its flow, and has it in hand.
@@ -126,7 +156,7 @@ abbrev pub TakesOrLeaves : BoardSizes → Setup → Server → Server → BoardS
 TakesOrLeaves about given s t old new hint_old hint_new true =
     TakesNext about given s t old new hint_old hint_new
 TakesOrLeaves about given s t old new hint_old hint_new false =
-    LeavesInbox s t old new hint_old hint_new
+    LeavesInbox about s t old new hint_old hint_new
 
 -- ---- the queue of a packet
 
@@ -263,15 +293,15 @@ pub record Replies (given : Setup) (app home : ℕ) (sent : Sent) (before after 
       (λ _. unwrap_or head 0) (λ _. true)
   pub table : after ≡ after_turn before (as_told turn)
 
--- An application replied to nothing: its hand was empty, or no queue of its packet was known, or
--- the gate was closed. At most the word of the packet's queue was loaded.
+-- An application replied to nothing: its hand was empty, or the word of its packet's queue was
+-- loaded and no queue was known, or the gate was closed.
 pub record KeepsHand (queues : ℕ) (late : List Arrival) (s t : Server)
     (old new : BoardSeatView) (hint_old hint_new : HintView) : Type 0 where
   pub same : t ≡ s
   pub queue : Option ℕ
   pub hint : IfSome s.hand (λ id. Queued queues id late hint_old hint_new queue)
   pub untouched : s.hand ≡ None → hint_new ≡ hint_old
-  pub gate : (new ≡ old) ⊎ ((IsSome queue) × BacksOut old new)
+  pub gate : ((queue ≡ None) × (new ≡ old)) ⊎ ((IsSome queue) × BacksOut old new)
 
 -- An application replied to the packet in its hand in one visit, with the queue of this packet, and
 -- noted the reply and the choice.

@@ -1,6 +1,9 @@
+use Rattle.std.proofs.Common.{ℕ, inl, inr, sym, subst, ◌∙◌}
 use Rattle.run_workers.specs.Hands.Deltas.{this_lane}
-use Rattle.run_workers.proofs.Hands.DeltaLemmas.{serves_out_back, serves_out_missed}
+use Rattle.run_workers.specs.Hands.Drains.{FindsNoRoom}
+use Rattle.run_workers.proofs.Hands.DeltaLemmas.{serves_out_back, serves_out_missed, stays}
 use Rattle.run_workers.proofs.Hands.DrainLemmas.{given_one, keeps_drain, still_pulled}
+use Rattle.run_workers.proofs.Hands.StopLemmas.{finds_no_room, stops_full}
 use Rattle.run_workers.proofs.drain.Drain.deliver.Goals as goal
 
 pub returns-then-room-eq0-clause-is : goal.returns-then-room-eq0-clause-is
@@ -49,3 +52,25 @@ pub returns-in-Held-clause-serves : goal.returns-in-Held-clause-serves
 returns-in-Held-clause-serves g c =
     serves_out_missed (this_lane c.args.self.now.lane) c.out_of-out.result c.in-Held.word
     c.args.seat.now c.try_hold.new.seat c.in-Held.ensures.1
+
+pub returns-then-room-eq0-clause-stops : goal.returns-then-room-eq0-clause-stops
+returns-then-room-eq0-clause-stops g c = λ none.
+    inr (stops_full (g.B.Board.view c.args.board.now).sizes c.args.given.now c.args.self.now
+    c.args.id c.args.seat.now c.args.seat.now c.give_back.new.seat c.requires.hand
+    (stays (this_lane c.args.self.now.lane) c.args.seat.now)
+    (subst (λ (o : ℕ). FindsNoRoom (g.B.Board.view c.args.board.now).sizes o c.args.seat.now
+    c.give_back.new.seat) c.out_of-out.ensures.value
+    (finds_no_room (g.B.Board.view c.args.board.now).sizes c.out_of-out.result c.args.seat.now
+    c.try_hold.new.seat c.give_back.new.seat c.in-Ok.held c.in-Ok.ensures.0
+    (sym c.room.ensures ∙ c.if-room-eq0.true) c.give_back.ensures)))
+
+pub returns-in-Held-clause-stops : goal.returns-in-Held-clause-stops
+returns-in-Held-clause-stops g c = λ none.
+    let missed : FindsNoRoom (g.B.Board.view c.args.board.now).sizes c.out_of-out.result
+    c.args.seat.now c.try_hold.new.seat =
+    inl (c.in-Held.word, c.in-Held.ensures.0, c.in-Held.ensures.1) in
+    inr (stops_full (g.B.Board.view c.args.board.now).sizes c.args.given.now c.args.self.now
+    c.args.id c.args.seat.now c.args.seat.now c.try_hold.new.seat c.requires.hand
+    (stays (this_lane c.args.self.now.lane) c.args.seat.now)
+    (subst (λ (o : ℕ). FindsNoRoom (g.B.Board.view c.args.board.now).sizes o c.args.seat.now
+    c.try_hold.new.seat) c.out_of-out.ensures.value missed))

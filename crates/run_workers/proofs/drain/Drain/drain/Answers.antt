@@ -1,7 +1,10 @@
-use Rattle.std.proofs.Common.{◌≡◌, ℕ, ◌∙◌}
+use Rattle.std.proofs.Common.{◌≡◌, inr, ℕ, ◌||◌, refl, ap, ◌∙◌, arith}
 use Rattle.board_api.specs.Seats.{BoardSeatView}
 use Rattle.run_workers.specs.Hands.Deltas.{Serves, this_lane}
 use Rattle.run_workers.proofs.Hands.DrainLemmas.{serves_on}
+use Rattle.run_workers.specs.declared.drain.Drain.{Drain}
+use Rattle.run_workers.proofs.Hands.StopLemmas.{delivered_more, moves_both, stopped_later}
+use Rattle.run_workers.proofs.Hands.StopLemmas.{stops_later}
 use Rattle.run_workers.proofs.drain.Drain.drain.Goals as goal
 
 -- after a turn of the loop
@@ -12,30 +15,58 @@ serves_both l i k a b c d s same t other u =
 
 pub returns-in_default-clause-serves : goal.returns-in_default-clause-serves
 returns-in_default-clause-serves g c =
-    serves_on c.args.self.now.lane c.loop.self.lane c.args.seat.now c.loop.seat
-    c.fill-pulled.new.seat c.loop.invariant.1 c.loop.invariant.2 c.fill-pulled.ensures.serves
+    serves_on c.args.self.now.lane c.loop-round.self.lane c.args.seat.now c.loop-round.seat
+    c.fill-pulled.new.seat c.loop-round.invariant.serves c.loop-round.invariant.lane
+    c.fill-pulled.ensures.serves
 
 pub returns-then-not-delivered-clause-serves : goal.returns-then-not-delivered-clause-serves
 returns-then-not-delivered-clause-serves g c =
-    serves_both c.args.self.now.lane c.loop.self.lane c.fill-pulled.new.self.lane c.args.seat.now
-    c.loop.seat c.fill-pulled.new.seat c.deliver-delivered.new.seat c.loop.invariant.1
-    c.loop.invariant.2 c.fill-pulled.ensures.serves c.fill-pulled.ensures.lane
-    c.deliver-delivered.ensures.serves
+    serves_both c.args.self.now.lane c.loop-round.self.lane c.fill-pulled.new.self.lane
+    c.args.seat.now c.loop-round.seat c.fill-pulled.new.seat c.deliver-delivered.new.seat
+    c.loop-round.invariant.serves c.loop-round.invariant.lane c.fill-pulled.ensures.serves
+    c.fill-pulled.ensures.lane c.deliver-delivered.ensures.serves
 
-pub returns-else-not-delivered-clause-serves : goal.returns-else-not-delivered-clause-serves
-returns-else-not-delivered-clause-serves g c =
-    serves_both c.args.self.now.lane c.loop.self.lane c.fill-pulled.new.self.lane c.args.seat.now
-    c.loop.seat c.fill-pulled.new.seat c.deliver-delivered.new.seat c.loop.invariant.1
-    c.loop.invariant.2 c.fill-pulled.ensures.serves c.fill-pulled.ensures.lane
-    c.deliver-delivered.ensures.serves
+pub returns-in_default-clause-stops : goal.returns-in_default-clause-stops
+returns-in_default-clause-stops g c =
+    inr (stops_later (g.B.Board.view c.args.board.now).sizes c.args.given.now
+    c.fill-pulled.new.self c.args.self.now.lane c.args.seat.now c.loop-round.seat
+    c.fill-pulled.new.seat (c.fill-pulled.ensures.lane ∙ c.loop-round.invariant.lane)
+    c.loop-round.invariant.serves (c.fill-pulled.ensures.none c.in_default.is))
 
-pub loop-preserved : goal.loop-preserved
-loop-preserved g c = (
-  c.deliver-delivered.ensures.is,
-  serves_both c.args.self.now.lane c.loop.self.lane c.fill-pulled.new.self.lane c.args.seat.now
-      c.loop.seat c.fill-pulled.new.seat c.deliver-delivered.new.seat c.loop.invariant.1
-      c.loop.invariant.2 c.fill-pulled.ensures.serves c.fill-pulled.ensures.lane
-      c.deliver-delivered.ensures.serves,
-  c.deliver-delivered.ensures.lane ∙ (c.fill-pulled.ensures.lane ∙ c.loop.invariant.2),
-  c.deliver-delivered.ensures.exit ∙ (c.fill-pulled.ensures.exit ∙ c.loop.invariant.3),
-)
+pub returns-then-not-delivered-clause-stops : goal.returns-then-not-delivered-clause-stops
+returns-then-not-delivered-clause-stops g c =
+    stopped_later (g.B.Board.view c.args.board.now).sizes c.args.given.now
+    c.deliver-delivered.new.self c.args.self.now.lane c.args.seat.now c.fill-pulled.new.seat
+    c.deliver-delivered.new.seat
+    (c.deliver-delivered.ensures.lane
+    ∙ (c.fill-pulled.ensures.lane ∙ c.loop-round.invariant.lane))
+    (serves_on c.args.self.now.lane c.loop-round.self.lane c.args.seat.now c.loop-round.seat
+    c.fill-pulled.new.seat c.loop-round.invariant.serves c.loop-round.invariant.lane
+    c.fill-pulled.ensures.serves)
+    (c.if-not-delivered.ensures.stops refl)
+
+pub loop-round-preserved : goal.loop-round-preserved
+loop-round-preserved g c =
+    let before = c.loop-round.invariant.rounds in
+    let same = ap (λ (d : Drain). d.retired) c.fill-pulled.ensures.same in
+    let more =
+    delivered_more c.fill-pulled.new.self c.deliver-delivered.new.self c.in-Some.id c.in-Some.is
+    c.if-not-delivered.ensures.did in
+    record {
+      is = c.deliver-delivered.ensures.is;
+      serves = serves_both c.args.self.now.lane c.loop-round.self.lane
+          c.fill-pulled.new.self.lane c.args.seat.now c.loop-round.seat c.fill-pulled.new.seat
+          c.deliver-delivered.new.seat c.loop-round.invariant.serves
+          c.loop-round.invariant.lane c.fill-pulled.ensures.serves c.fill-pulled.ensures.lane
+          c.deliver-delivered.ensures.serves;
+      lane = c.deliver-delivered.ensures.lane
+          ∙ (c.fill-pulled.ensures.lane ∙ c.loop-round.invariant.lane);
+      exit = c.deliver-delivered.ensures.exit
+          ∙ (c.fill-pulled.ensures.exit ∙ c.loop-round.invariant.exit);
+      did = moves_both c.args.self.now c.fill-pulled.new.self c.deliver-delivered.new.self
+          (c.loop-round.did || c.fill-pulled.result) c.deliver-delivered.result
+          (moves_both c.args.self.now c.loop-round.self c.fill-pulled.new.self c.loop-round.did
+          c.fill-pulled.result c.loop-round.invariant.did c.fill-pulled.ensures.did)
+          c.deliver-delivered.ensures.did;
+      rounds = omega (arith, before, same, more);
+    }

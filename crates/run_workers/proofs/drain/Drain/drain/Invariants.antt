@@ -1,9 +1,14 @@
-use Rattle.std.proofs.Common.{◌≡◌}
+use Rattle.std.proofs.Common.{◌≡◌, ◌≤◌}
 use Rattle.run_workers.specs.Hands.Deltas.{Serves, this_lane}
-use Rattle.run_workers.specs.Hands.Drains.{IsDrain}
+use Rattle.run_workers.specs.Hands.Drains.{IsDrain, Moves}
 use Rattle.run_workers.proofs.drain.Drain.drain.Given as goal
 
-abbrev pub invariant-loop : goal.invariant-loop
-invariant-loop g l =
-    IsDrain l.fn.given l.self l.seat.steps × Serves (this_lane l.fn.self.lane) l.fn.seat l.seat
-    × (l.self.lane ≡ l.fn.self.lane) × (l.self.exit ≡ l.fn.self.exit)
+abbrev pub invariant-loop-round : goal.invariant-loop-round
+invariant-loop-round g l = record {
+  is : IsDrain l.fn.given l.self l.seat.steps;
+  serves : Serves (this_lane l.fn.self.lane) l.fn.seat l.seat;
+  lane : l.self.lane ≡ l.fn.self.lane;
+  exit : l.self.exit ≡ l.fn.self.exit;
+  did : Moves l.fn.self l.self l.did;
+  rounds : l.round ≤ l.self.retired;
+}

@@ -1,6 +1,9 @@
+use Rattle.std.proofs.Common.{inl, inr}
+use Rattle.steer_base.specs.Counters.{number}
 use Rattle.run_workers.specs.Hands.Deltas.{this_lane}
 use Rattle.run_workers.proofs.Hands.DeltaLemmas.{serves_missed}
 use Rattle.run_workers.proofs.Hands.DrainLemmas.{keeps_drain, pulled_none, pulled_one}
+use Rattle.run_workers.proofs.Hands.StopLemmas.{finds_none}
 use Rattle.run_workers.proofs.drain.Drain.pull.Goals as goal
 
 pub returns-in-Took-clause-is : goal.returns-in-Took-clause-is
@@ -38,3 +41,13 @@ pub returns-in-Held-clause-serves : goal.returns-in-Held-clause-serves
 returns-in-Held-clause-serves g c =
     serves_missed (this_lane c.args.self.now.lane) c.args.self.now.lane c.in-Held.word
     c.args.seat.now c.try_hold.new.seat c.in-Held.ensures.1
+
+pub returns-in-Empty-clause-none : goal.returns-in-Empty-clause-none
+returns-in-Empty-clause-none g c = λ none.
+    finds_none (g.B.Board.view c.args.board.now).sizes c.args.self.now.lane
+    (number c.args.self.now.start c.args.self.now.retired) c.args.seat.now c.try_hold.new.seat
+    c.pull.new.seat c.in-Ok.held c.in-Ok.ensures.0 c.in-Empty.ensures
+
+pub returns-in-Held-clause-none : goal.returns-in-Held-clause-none
+returns-in-Held-clause-none g c = λ none.
+    inr (inl (c.in-Held.word, c.in-Held.ensures.0, c.in-Held.ensures.1))

@@ -12,8 +12,9 @@ returns-in_default-clause-polls g c =
       mid = c.take-took.new.self;
       took = c.take-took.result;
       takes = c.take-took.ensures.takes;
+      none = c.take-took.ensures.none;
       same = c.take-took.ensures.same;
-      steers = inl (record { same = refl; hint = refl; steps = inl refl });
+      steers = inl (record { same = refl; hint = refl; steps = inl (c.in_default.is, refl) });
     }
 
 pub leave-requires-clause-inside : goal.leave-requires-clause-inside
@@ -33,6 +34,7 @@ returns-in-Ok-clause-polls g c =
       mid = c.take-took.new.self;
       took = c.take-took.result;
       takes = c.take-took.ensures.takes;
+      none = c.take-took.ensures.none;
       same = c.take-took.ensures.same;
       steers = inr (
         c.in-Some.id,
@@ -62,6 +64,7 @@ returns-in-Closed-clause-polls g c =
       mid = c.take-took.new.self;
       took = c.take-took.result;
       takes = c.take-took.ensures.takes;
+      none = c.take-took.ensures.none;
       same = c.take-took.ensures.same;
       steers = inl (record {
         same = refl;

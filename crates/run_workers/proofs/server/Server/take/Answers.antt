@@ -16,17 +16,23 @@ returns-then-is_some-clause-takes g c =
       hint = refl;
       mid = c.args.seat.now;
       looks = stays no_lane c.args.seat.now;
-      gate = inl refl;
+      gate = inl (
+        inl (sym c.is_some.ensures ∙ c.if-is_some.true),
+        refl,
+      );
     }
 
 pub returns-then-len-room-clause-takes : goal.returns-then-len-room-clause-takes
 returns-then-len-room-clause-takes g c =
+    let full = c.if-len-room.true in
+    let len = c.len.ensures.len in
+    let room = c.room.ensures in
     record {
       same = refl;
       hint = refl;
       mid = c.args.seat.now;
       looks = stays no_lane c.args.seat.now;
-      gate = inl refl;
+      gate = inl (inr (inl (omega (arith, full, len, room))), refl);
     }
 
 pub returns-in_default-clause-takes : goal.returns-in_default-clause-takes
@@ -36,31 +42,31 @@ returns-in_default-clause-takes g c =
       hint = refl;
       mid = c.peek.new.seat;
       looks = record {
-        added = c.peek.ensures.added;
-        only = c.peek.ensures.only;
-        adds = c.peek.ensures.adds;
+        added = c.peek.ensures.peeks.added;
+        only = c.peek.ensures.peeks.only;
+        adds = c.peek.ensures.peeks.adds;
       };
-      gate = inl refl;
+      gate = inl (inr (inr (c.peek.ensures.none c.in_default.is)), refl);
     }
 
 pub returns-in_default-clause-outside : goal.returns-in_default-clause-outside
 returns-in_default-clause-outside g c =
-    let p = c.peek.ensures in
+    let p = c.peek.ensures.peeks in
     quiet_place p.added c.args.seat.now c.peek.new.seat p.only.quiet p.adds ∙ c.requires.outside
 
 pub returns-in_default-clause-open : goal.returns-in_default-clause-open
 returns-in_default-clause-open g c =
-    let p = c.peek.ensures in
+    let p = c.peek.ensures.peeks in
     quiet_gate p.added c.args.seat.now c.peek.new.seat p.only.quiet p.adds ∙ c.requires.open
 
 pub enter-requires-clause-outside : goal.enter-requires-clause-outside
 enter-requires-clause-outside g c =
-    let p = c.peek.ensures in
+    let p = c.peek.ensures.peeks in
     quiet_place p.added c.args.seat.now c.peek.new.seat p.only.quiet p.adds ∙ c.requires.outside
 
 pub enter-requires-clause-open : goal.enter-requires-clause-open
 enter-requires-clause-open g c =
-    let p = c.peek.ensures in
+    let p = c.peek.ensures.peeks in
     quiet_gate p.added c.args.seat.now c.peek.new.seat p.only.quiet p.adds ∙ c.requires.open
 
 pub returns-in-Ok-clause-is : goal.returns-in-Ok-clause-is
@@ -73,12 +79,12 @@ returns-in-Ok-clause-is g c =
     c.enter.new.seat c.record.new.seat c.args.hint.now c.record.new.hint c.requires.is
     (none-unless c.args.self.now.hand (sym c.is_some.ensures ∙ c.if-is_some.false))
     (omega (arith, few, len, room))
-    (subst (λ (n : ℕ). c.in-Some.id < n) (sym c.requires.room) c.in-Some.ensures.found.within)
+    (subst (λ (n : ℕ). c.in-Some.id < n) (sym c.requires.room) c.in-Some.ensures.peeks.found.within)
     c.record.ensures.notes)
 
 pub returns-in-Ok-clause-open : goal.returns-in-Ok-clause-open
 returns-in-Ok-clause-open g c =
-    let p = c.peek.ensures in
+    let p = c.peek.ensures.peeks in
     ap (λ (s : BoardSeatView). closed (gate_steps s.steps)) c.leave.ensures
     ∙ (ap (λ (s : BoardSeatView). closed (gate_steps s.steps)) c.record.ensures.notes.1
     ∙ (ap (λ (s : BoardSeatView). closed (gate_steps s.steps)) c.in-Ok.ensures.step.2
@@ -92,16 +98,19 @@ returns-in-Closed-clause-takes g c =
       hint = refl;
       mid = c.peek.new.seat;
       looks = record {
-        added = c.peek.ensures.added;
-        only = c.peek.ensures.only;
-        adds = c.peek.ensures.adds;
+        added = c.peek.ensures.peeks.added;
+        only = c.peek.ensures.peeks.only;
+        adds = c.peek.ensures.peeks.adds;
       };
-      gate = inr (c.in-Closed.word, c.in-Closed.ensures.step.1);
+      gate = inr (
+        (c.in-Some.id, c.in-Some.ensures.peeks),
+        (c.in-Closed.word, c.in-Closed.ensures.step.1),
+      );
     }
 
 pub returns-in-Closed-clause-open : goal.returns-in-Closed-clause-open
 returns-in-Closed-clause-open g c =
-    let p = c.peek.ensures in
+    let p = c.peek.ensures.peeks in
     ap (λ (s : BoardSeatView). closed (gate_steps s.steps)) c.in-Closed.ensures.step.1
     ∙ (quiet_gate p.added c.args.seat.now c.peek.new.seat p.only.quiet p.adds
     ∙ c.requires.open)

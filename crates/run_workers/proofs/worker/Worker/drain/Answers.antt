@@ -2,6 +2,7 @@ use Rattle.std.proofs.Common.{refl}
 use Rattle.run_workers.specs.declared.drain.Exit.TheVariants.{Inboxes}
 use Rattle.run_workers.proofs.AtLemmas.{outs_within, read_at}
 use Rattle.run_workers.proofs.DrainLemmas.{drain_goes_on}
+use Rattle.run_workers.proofs.TurnLemmas.{others_of_drain}
 use Rattle.run_workers.proofs.worker.Worker.drain.Goals as goal
 
 pub drain-requires : goal.drain-requires
@@ -27,4 +28,12 @@ returns g c =
       goes = drain_goes_on _ c.args.self.now _ c.args.seats.now _ refl refl refl c.requires.is
           c.args.i c.index_mut.result.now c.drain.new.self refl refl refl there
           c.drain.ensures.serves c.drain.ensures.is c.drain.ensures.lane c.drain.ensures.exit;
+      one = record {
+        x = c.index_mut.result.now;
+        y = c.drain.new.self;
+        there = there;
+        are = refl;
+        call = (c.drain.ensures.stops, c.drain.ensures.did);
+      };
+      others = others_of_drain c.args.self.now _ refl refl refl;
     }

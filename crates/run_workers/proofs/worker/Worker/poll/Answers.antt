@@ -1,6 +1,7 @@
 use Rattle.std.proofs.Common.{arith, refl}
 use Rattle.run_workers.proofs.AtLemmas.{read_at}
 use Rattle.run_workers.proofs.PollLemmas.{poll_goes_on}
+use Rattle.run_workers.proofs.TurnLemmas.{others_of_poll}
 use Rattle.run_workers.proofs.worker.Worker.poll.Goals as goal
 
 pub poll-requires : goal.poll-requires
@@ -34,4 +35,12 @@ returns g c =
       goes = poll_goes_on _ c.args.self.now _ c.args.seats.now _ c.args.i c.index_mut.result.now
           c.poll.new.self refl refl refl refl refl there c.requires.is c.poll.ensures.polls
           c.poll.ensures.is c.poll.ensures.ring c.poll.ensures.outside c.poll.ensures.open;
+      one = record {
+        x = c.index_mut.result.now;
+        y = c.poll.new.self;
+        there = there;
+        are = refl;
+        call = (c.poll.ensures.polls, c.poll.ensures.idle);
+      };
+      others = others_of_poll c.args.self.now _ refl refl refl;
     }

@@ -2,6 +2,7 @@ use Rattle.std.proofs.Common.{refl, subst}
 use Rattle.run_workers.specs.Hands.Servers.{RepliesOrKeeps}
 use Rattle.run_workers.proofs.AtLemmas.{read_at, reply_room, reply_words}
 use Rattle.run_workers.proofs.ReplyLemmas.{reply_goes_on}
+use Rattle.run_workers.proofs.TurnLemmas.{others_of_serve}
 use Rattle.run_workers.proofs.worker.Worker.reply.Goals as goal
 
 pub reply-requires : goal.reply-requires
@@ -26,11 +27,20 @@ returns g c =
     let there =
     read_at c.args.self.now.servers c.args.i c.index_mut.result.now c.requires.within
     c.index_mut.ensures.value in
+    let replies =
+    subst (λ xs. RepliesOrKeeps c.args.stage.now.shared.given xs c.index_mut.result.now
+    c.reply.new.self c.args.seats.now.tx c.reply.new.seat c.args.seats.now.hint
+    c.reply.new.hint c.reply.result) c.as_slice.ensures c.reply.ensures.replies in
     record {
       goes = reply_goes_on _ c.args.self.now _ c.args.seats.now _ c.args.i c.index_mut.result.now
-          c.reply.new.self c.reply.result refl refl refl refl refl there c.requires.is
-          (subst (λ xs. RepliesOrKeeps c.args.stage.now.shared.given xs c.index_mut.result.now
-          c.reply.new.self c.args.seats.now.tx c.reply.new.seat c.args.seats.now.hint
-          c.reply.new.hint c.reply.result) c.as_slice.ensures c.reply.ensures.replies)
+          c.reply.new.self c.reply.result refl refl refl refl refl there c.requires.is replies
           c.reply.ensures.is c.reply.ensures.outside c.reply.ensures.open;
+      one = record {
+        x = c.index_mut.result.now;
+        y = c.reply.new.self;
+        there = there;
+        are = refl;
+        call = replies;
+      };
+      others = others_of_serve c.args.self.now _ refl refl refl;
     }

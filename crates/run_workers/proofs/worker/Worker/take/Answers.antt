@@ -1,6 +1,7 @@
 use Rattle.std.proofs.Common.{arith, refl}
 use Rattle.run_workers.proofs.AtLemmas.{read_at}
 use Rattle.run_workers.proofs.TakeLemmas.{take_goes_on}
+use Rattle.run_workers.proofs.TurnLemmas.{others_of_serve}
 use Rattle.run_workers.proofs.worker.Worker.take.Goals as goal
 
 pub take-requires : goal.take-requires
@@ -31,4 +32,12 @@ returns g c =
       goes = take_goes_on _ c.args.self.now _ c.args.seats.now _ c.args.i c.index_mut.result.now
           c.take.new.self c.take.result refl refl refl refl refl there c.requires.is
           c.take.ensures.takes c.take.ensures.is c.take.ensures.outside c.take.ensures.open;
+      one = record {
+        x = c.index_mut.result.now;
+        y = c.take.new.self;
+        there = there;
+        are = refl;
+        call = c.take.ensures.takes;
+      };
+      others = others_of_serve c.args.self.now _ refl refl refl;
     }

@@ -2,7 +2,7 @@ use Rattle.std.proofs.Common.{arith}
 use Rattle.run_workers.specs.Tally.{finished_by}
 use Rattle.run_workers.proofs.LookLemmas.{looks_more}
 use Rattle.run_workers.proofs.Records.ListLemmas.{contains_later}
-use Rattle.run_workers.proofs.SameLemmas.{goes_on_twice}
+use Rattle.run_workers.proofs.SameLemmas.{goes_both, goes_on_twice}
 use Rattle.run_workers.proofs.TallyLemmas.{counts_both, counts_stay, finished_later}
 use Rattle.run_workers.proofs.worker.Worker.work.Goals as goal
 
@@ -88,4 +88,24 @@ loop-preserved g c =
                 (c.looks-arrived.ensures.arrived (c.rests-finished.ensures.arrived e));
             saw = c.rests-finished.ensures.saw e;
           };
+    }
+
+pub returns-then-finished-clause-last : goal.returns-then-finished-clause-last
+returns-then-finished-clause-last g c =
+    record {
+      last = c.loop.self;
+      begins = c.looks-arrived.new.seats;
+      goes = goes_both _ c.args.self.now c.loop.self c.loop.self c.args.seats.now c.loop.seats
+          c.looks-arrived.new.seats c.loop.invariant.goes c.looks-arrived.ensures.goes;
+      turn = c.if-turn.ensures.plays;
+    }
+
+pub returns-then-idle-clause-last : goal.returns-then-idle-clause-last
+returns-then-idle-clause-last g c =
+    record {
+      last = c.loop.self;
+      begins = c.looks-arrived.new.seats;
+      goes = goes_both _ c.args.self.now c.loop.self c.loop.self c.args.seats.now c.loop.seats
+          c.looks-arrived.new.seats c.loop.invariant.goes c.looks-arrived.ensures.goes;
+      turn = c.if-turn.ensures.plays;
     }
