@@ -1,3 +1,5 @@
+pub mod Changes
 pub mod Keeps
 pub mod LastWrites
 pub mod Sources
+pub mod Writing

@@ -27,7 +27,7 @@ by_test p q a b F same other =
     dite (ℕ_discrete p q) (λ e. subst F (sym (ap (λ c. if c then a else b) (eq-eqb p q e)))
     (same e)) (λ ne. subst F (sym (ap (λ c. if c then a else b) (ne_eqb p q ne))) (other ne))
 
-from_map : {A B : Type 0} (f : A → B) (xs : List A) (y : B) → Contains (map f xs) y → (x : A)
+pub from_map : {A B : Type 0} (f : A → B) (xs : List A) (y : B) → Contains (map f xs) y → (x : A)
     × Contains xs x × (f x ≡ y)
 from_map f [] y c = let l = c.1 in absurd (omega arith)
 from_map f (x ∷ xs) y (zero, l, e) = (x, here x xs, e)
@@ -95,7 +95,7 @@ sources (e ∷ es) lawful p = let rest = All-weaker (HasSource es) (HasSource (e
     (λ _. rest)
 
 -- a step of the seat q stands among its steps
-among_own : (order : List (StepBy HintStep)) (q : ℕ) (d : HintStep) → Contains order (step_by q d)
+pub among_own : (order : List (StepBy HintStep)) (q : ℕ) (d : HintStep) → Contains order (step_by q d)
     → Contains (steps_of q order) d
 among_own [] q d c = let l = c.1 in absurd (omega arith)
 among_own (e ∷ es) q d (zero, l, is) = by_test e.by q (e.step ∷ steps_of q es) (steps_of q es)

@@ -1,3 +1,4 @@
+pub mod Closings
 pub mod Loads
 pub mod Steps
 pub mod Tables

@@ -1,9 +1,8 @@
 //! The words, how they are made and how they end.
-ghost use Rattle.std.specs.Prelude.{◌≡◌, ℕ, List, IfOk, All};
+ghost use Rattle.std.specs.Prelude.{◌≡◌, IfOk, All};
 ghost use Rattle.std.specs.Vec.{vec_len};
-ghost use Rattle.linearization.specs.Orders.{StepBy};
-ghost use Rattle.linearization.specs.Seats.{new_seats, ArePartsOf};
-ghost use Rattle.hint_words.specs.Steps.{IsLawful};
+ghost use Rattle.linearization.specs.Seats.{new_seats};
+ghost use Rattle.hint_words.specs.Closings.{HaveEnded};
 ghost use Rattle.hint_words.specs.Loads.{LoadsAreStored};
 
 use crate::rule::LastWrites;
@@ -65,8 +64,7 @@ impl Hints {
     pub fn close_hints(self, seats: Vec<HintSeat>)
         requires table { All (λ s. s.table ≡ self.table) seats.items }
         requires all { vec_len seats ≡ self.seats }
-        ensures order { (order : List (StepBy HintStep))
-            × IsLawful order × ArePartsOf order seats.items }
+        ensures order { HaveEnded seats.items }
         ensures stored { LoadsAreStored seats.items }
     {
         close(self.table, seats).free();

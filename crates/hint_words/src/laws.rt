@@ -1,6 +1,7 @@
 //! Laws of the definitions that the contracts cite.
 ghost use Rattle.std.specs.Prelude.{◌≡◌, ◌⊎◌, ℕ, List};
 ghost use Rattle.linearization.specs.Orders.{StepBy};
+ghost use Rattle.hint_words.specs.Closings.{ChangesAreWritten};
 ghost use Rattle.hint_words.specs.Steps.{word_after, NoneWrites, IsWrittenLast};
 
 use crate::step::HintStep;
@@ -14,4 +15,10 @@ pub fn last_write()
         → NoneWrites i order → word_after i order ≡ 0 }
     ensures either { (i : ℕ) (order : List (StepBy HintStep))
         → NoneWrites i order ⊎ IsWrittenLast i order (word_after i order) }
+{}
+
+/// Lemma: of words that have ended, what a seat loads from a word where an earlier load of its own
+/// found another value, one of the seats wrote there.
+pub fn changes_are_written()
+    ensures { ChangesAreWritten }
 {}

@@ -10,5 +10,5 @@ mod sizes;
 mod step;
 
 pub use hints::{HintSeat, Hints};
-pub use laws::last_write;
+pub use laws::{changes_are_written, last_write};
 pub use step::HintStep;

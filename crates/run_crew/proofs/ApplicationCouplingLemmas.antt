@@ -45,6 +45,7 @@ use Rattle.hop_delivery.specs.Orders.ReceiveSettings.{mask}
 use Rattle.hop_delivery.specs.Orders.Runs.{Steering, Execution, turns_of}
 use Rattle.hop_delivery.specs.Orders.TransmitSettings.{pick_by, transmit_steering}
 use Rattle.hop_delivery.specs.Orders.Turns.{Turn}
+use Rattle.plan_reader.specs.declared.plan.QueuePlan.{QueuePlan}
 use Rattle.steer_model.specs.Good.Inputs.{Input, setup_in}
 use Rattle.steer_model.specs.State.Setup.{Setup, flow_number_of, packet_hash}
 use Rattle.run_words.specs.Values.{cpus_in, place_in, queues_in, socket_size_in}
@@ -55,9 +56,10 @@ use Rattle.run_workers.specs.declared.server.Server.{Server}
 use Rattle.run_coupling.specs.Laws.SharedCodes.{AreShared}
 use Rattle.run_coupling.specs.Coupling.Applications.{FitTransmitWords, WasFoundAt}
 use Rattle.run_coupling.specs.Coupling.Ends.{AllArrived}
-use Rattle.run_coupling.specs.Coupling.Hints.{AreRecorded, CameBy, HintCodes, Stands, WasLoaded}
-use Rattle.run_coupling.specs.Coupling.Hints.{WasRead}
+use Rattle.run_coupling.specs.Coupling.Hints.{AreRecorded, CameBy, HintCodes, Says, Stands}
+use Rattle.run_coupling.specs.Coupling.Hints.{WasLoaded, WasRead}
 use Rattle.run_coupling.specs.Coupling.OwnTables.{IsByTable, table_before}
+use Rattle.run_coupling.proofs.Runs.CodeLemmas.{word-says}
 use Rattle.run_words.specs.Lists.{oldest_first}
 use Rattle.run_crew.specs.ApplicationCoupling.{ApplicationsAreCoupled, IsApplicationCoupled}
 use Rattle.run_crew.specs.ApplicationCoupling.{maps_seen}
@@ -69,7 +71,7 @@ use Rattle.run_workers.specs.Records.Replying.{HasStood, IsReplied, IsReplying, 
 use Rattle.run_workers.specs.Records.Replying.{RepliedTurn}
 use Rattle.run_workers.specs.Records.Replying.{replies_in, replied_table, taken_by, reply_turns}
 use Rattle.run_workers.proofs.Records.ListLemmas.{append_none}
-use Rattle.run_crew.proofs.RuleLemmas.{place_is, rule_looks, rule_want}
+use Rattle.run_crew.proofs.RuleLemmas.{rule_looks, rule_want}
 use Rattle.run_crew.proofs.TurnListLemmas.{TurnAt, front, place, since_more, turn_at}
 
 -- without an entry for a hash the size is 0
@@ -121,13 +123,22 @@ module _ (i : Input) (h : History) (rx_own : ℕ → List BoardStep) (rx_seat : 
       → HasStood given.cpus a home seat.steps cpu → Stands i h c seats a cpu
   stood_at a home cpu is (word, said, has) = by_word (place_in word given.cpus) refl said
     where
+      was : WasLoaded seats (c.stand a) word
+      was = loaded (c.stand a) word (STAND_WORDS + a) word has (codes.stand a) refl
+
       by_word : (o : Option ℕ) → place_in word given.cpus ≡ o → cpu ≡ unwrap_or o home
           → Stands i h c seats a cpu
-      by_word None none same = inl (is ∙ ap (λ n. Some n) (sym same))
+      by_word None none same =
+          inr (
+            (word, was, word-says c codes word given.cpus None none),
+            is ∙ ap (λ n. Some n) (sym same),
+          )
       by_word (Some n) some same =
-          inr (loaded (c.stand a) (c.place cpu) (STAND_WORDS + a) word has (codes.stand a)
-          (codes.place cpu ∙ sym (place_is word given.cpus cpu
-          (some ∙ ap (λ m. Some m) (sym same)))))
+          inl (
+            word,
+            was,
+            word-says c codes word given.cpus (Some cpu) (some ∙ ap (λ m. Some m) (sym same)),
+          )
 
   pub came_by : (id rxq : ℕ) → AllArrived i h
       → HasCome (length given.homes) h.arrivals seat.steps id rxq → CameBy i h c seats id rxq
@@ -151,14 +162,20 @@ module _ (i : Input) (h : History) (rx_own : ℕ → List BoardStep) (rx_seat : 
           by_id true is = some-is a.queue rxq is
           by_id false is = none-some rxq is
 
+      was : WasLoaded seats (c.packet id) word
+      was = loaded (c.packet id) word (QUEUE_WORDS + id) word has (codes.packet id) refl
+
+      says : (o : Option ℕ) → place_in word (length given.homes) ≡ o
+          → Says c (length i.plan.queues) word o
+      says o is =
+          word-says c codes word (length i.plan.queues) o
+          (ap (place_in word) (sym (length-map i.plan.queues (λ (q : QueuePlan). q.home))) ∙ is)
+
       by_word : (o : Option ℕ) → place_in word (length given.homes) ≡ o
           → queue_by o h.arrivals id ≡ Some rxq → CameBy i h c seats id rxq
-      by_word None none is = inl (arrived_at (slice_get h.arrivals id) refl is)
-      by_word (Some q) some is =
-          inr (loaded (c.packet id) (c.place rxq) (QUEUE_WORDS + id) word has (codes.packet id)
-          (codes.place rxq
-          ∙ sym (place_is word (length given.homes) rxq
-          (some ∙ ap (λ m. Some m) (some-is q rxq is)))))
+      by_word None none is =
+          inr ((word, was, says None none), arrived_at (slice_get h.arrivals id) refl is)
+      by_word (Some q) some is = inl (word, was, says (Some rxq) (some ∙ is))
 
   -- ---- writes
 

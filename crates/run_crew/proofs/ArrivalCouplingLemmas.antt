@@ -30,7 +30,9 @@ use Rattle.run_words.proofs.ValueLemmas.{only_coded}
 use Rattle.steer_model.specs.Good.Inputs.{Input, setup_in}
 use Rattle.steer_model.specs.State.Setup.{Setup, packet_hash}
 use Rattle.run_coupling.specs.Laws.SharedCodes.{AreShared}
-use Rattle.run_coupling.specs.Coupling.Hints.{HintCodes, IsRouted, WasLoaded}
+use Rattle.run_coupling.specs.Coupling.Hints.{HintCodes, IsByWord, IsRouted, Says, SawNoFilter}
+use Rattle.run_coupling.specs.Coupling.Hints.{WasLoaded}
+use Rattle.run_coupling.proofs.Runs.CodeLemmas.{no-filter-says, word-says}
 use Rattle.run_words.specs.Lists.{oldest_first}
 use Rattle.run_coupling.proofs.Lists.PlaceLemmas.{AreNumbered}
 use Rattle.run_crew.specs.ArrivalLaws.{WireKeepsCoupling}
@@ -247,25 +249,56 @@ module _ (i : Input) (h : History) (c : HintCodes) (seats : List HintView) (fina
             (contains-first (Load number value) old.steps))),
       )
 
+  -- the word of the filter said none
+  no-filter : (hash : ℕ) (place : Option ℕ) (old mid : HintView)
+      → filter_place i.plan.filters (Some hash) ≡ place
+      → LooksUpFilter (setup_in i) place old mid None
+      → ((d : HintStep) → Contains mid.steps d → Contains final.steps d)
+      → SawNoFilter i h c seats hash
+  no-filter hash None old mid there looks sub = inl there
+  no-filter hash (Some place) old mid there (value, is, same) sub =
+      let number : ℕ = hint_number (word.Filter place) in
+      inr (
+        place,
+        value,
+        there,
+        loaded (c.filter place) number value value (shared.filter place) refl
+            (sub (Load number value)
+            (subst (λ (s : HintView). Contains s.steps (Load number value)) (sym same)
+            (contains-first (Load number value) old.steps))),
+        no-filter-says c shared value (length i.plan.queues) i.plan.cpus
+            i.plan.within.queues_length.at_most i.plan.within.cpus_within
+            (subst (λ n. filter_in value n i.plan.cpus ≡ None) queue-count (sym is)),
+      )
+
   by-entry : (hash queue value : ℕ) (place : Option ℕ) (a : Arrival)
+      → SawNoFilter i h c seats hash
       → place_in value (length (setup_in i).homes) ≡ place
       → queue ≡ unwrap_or place (queue_of reta (Some hash))
       → route_of a ≡ route (Some hash) None queue
       → Contains final.steps (Load (hint_number (word.Redirection (table_place hash))) value)
       → IsRouted i h c seats (Some hash) a
-  by-entry hash queue value None a is same way has = inl (queue, way, inl (sym same))
-  by-entry hash queue value (Some place) a is same way has =
-      inl (
-        queue,
-        way,
-        inr (loaded (c.entry (table_place hash))
-            (hint_number (word.Redirection (table_place hash))) (c.place queue) value
-            (shared.entry (table_place hash))
-            (shared.place queue
-            ∙ (ap place_word same
-            ∙ sym (only_coded.place value (length (setup_in i).homes) place is)))
-            has),
-      )
+  by-entry hash queue value place a none is same way has =
+      inl (queue, way, none, by-place place is same)
+    where
+      was : WasLoaded seats (c.entry (table_place hash)) value
+      was =
+          loaded (c.entry (table_place hash)) (hint_number (word.Redirection (table_place hash)))
+          value value (shared.entry (table_place hash)) refl has
+
+      says : (o : Option ℕ) → place_in value (length (setup_in i).homes) ≡ o
+          → Says c (length i.plan.queues) value o
+      says o at =
+          word-says c shared value (length i.plan.queues) o
+          (ap (place_in value) (sym queue-count) ∙ at)
+
+      by-place : (o : Option ℕ) → place_in value (length (setup_in i).homes) ≡ o
+          → queue ≡ unwrap_or o (queue_of reta (Some hash))
+          → IsByWord i h c seats (c.entry (table_place hash)) (length i.plan.queues) queue
+          (slice_index i.plan.reta (table_place hash) ≡ queue)
+      by-place None at plan = inr ((value, was, says None at), sym plan)
+      by-place (Some q) at said =
+          inl (value, was, says (Some queue) (at ∙ ap (λ n. Some n) (sym said)))
 
   routed : (hash : Option ℕ) (a : Arrival) (old new : HintView)
       → Routes (setup_in i) i.plan.filters reta hash a old new
@@ -278,7 +311,12 @@ module _ (i : Input) (h : History) (c : HintCodes) (seats : List HintView) (fina
   routed (Some hash) a old new (None, mid, looks, by) sub =
       let value : ℕ = by.2.0 in
       let load : HintStep = Load (hint_number (word.Redirection (table_place hash))) value in
-      by-entry hash by.0 value (place_in value (length (setup_in i).homes)) a refl by.2.1 by.1
+      let loads : (d : HintStep) → Contains mid.steps d → Contains final.steps d =
+      λ d has. sub d (subst (λ (s : HintView). Contains s.steps d) (sym by.2.2)
+      (contains-later load mid.steps d has)) in
+      by-entry hash by.0 value (place_in value (length (setup_in i).homes)) a
+      (no-filter hash (filter_place i.plan.filters (Some hash)) old mid refl looks loads) refl
+      by.2.1 by.1
       (sub load (subst (λ (s : HintView). Contains s.steps load) (sym by.2.2)
       (contains-first load mid.steps)))
 

@@ -1,6 +1,6 @@
 -- A poller's record gives the coupling invariants of its queue.
-use Rattle.std.proofs.Common.{◌≡◌, inl, ℕ, ◌+◌, ◌*◌, ◌%◌, ◌^◌, ◌<◌, ◌≤◌, Bool}
-use Rattle.std.proofs.Common.{false, List, ◌∷◌, ◌++◌, Option, None, Some, IfSome, true≢false}
+use Rattle.std.proofs.Common.{◌≡◌, ◌⊎◌, inl, inr, ℕ, ◌+◌, ◌*◌, ◌%◌, ◌^◌, ◌<◌, ◌≤◌, Bool, All}
+use Rattle.std.proofs.Common.{false, List, [], ◌∷◌, ◌++◌, Option, None, Some, IfSome, true≢false}
 use Rattle.std.proofs.Common.{if◌then◌else◌, length, map, take, drop, sym, refl, ap, ◌∙◌, subst}
 use Rattle.std.proofs.Common.{arith}
 use Rattle.std.specs.Prelude.{slice_index, unwrap_or}
@@ -8,6 +8,7 @@ use Rattle.std.specs.List.{Contains, fold}
 use Rattle.std.specs.Option.{is_some}
 use Rattle.std.proofs.lemmas.Bool.{lt-ltb, le-leb}
 use Rattle.std.proofs.lemmas.List.{length-replicate}
+use Rattle.std.proofs.lemmas.List.Elements.{All-head, All-tail}
 use Rattle.linearization.specs.Seats.{SeatView}
 use Rattle.linearization.proofs.ListLemmas.{if_same, if_other}
 use Rattle.steer_base.specs.Choices.{class_of, looks_at_head, migrate, rps_choice_of}
@@ -18,14 +19,13 @@ use Rattle.dev_flow_table.specs.Folds.{after_turn}
 use Rattle.dev_flow_table.specs.Tables.{IsClassOf, Table, cleared, entries, unset}
 use Rattle.dev_flow_table.specs.Walks.{since_resize}
 use Rattle.hint_words.specs.declared.step.HintStep.{HintStep}
-use Rattle.hint_words.specs.declared.step.HintStep.TheVariants.{Load}
 use Rattle.hop_rule.specs.Moments.{nth_step}
 use Rattle.hop_rule.specs.declared.sizes.BoardSizes.{BoardSizes}
 use Rattle.hop_rule.specs.declared.step.BoardStep.{BoardStep}
 use Rattle.hop_rule.specs.declared.step.BoardStep.TheVariants.{Gate, Weighed}
 use Rattle.hop_rule.specs.declared.step.GateStep.TheVariants.{Read}
-use Rattle.hop_rule.proofs.Lists.{some-is}
-use Rattle.hop_rule.proofs.Moments.{nth-between}
+use Rattle.hop_rule.proofs.Lists.{none-some, some-is}
+use Rattle.hop_rule.proofs.Moments.{nth-between, nth-first, nth-inside}
 use Rattle.hop_delivery.specs.Closings.TurnReads.{HasSeen, Knows}
 use Rattle.hop_delivery.specs.Orders.ReceiveSettings.{Queues, mask, online, receive_steering, rps}
 use Rattle.hop_delivery.specs.Orders.Runs.{Steering, Execution, goal_of, turns_of}
@@ -39,19 +39,18 @@ use Rattle.run_workers.specs.declared.poller.Poller.{Poller}
 use Rattle.run_workers.specs.declared.poller.Reading.{Reading}
 use Rattle.run_workers.proofs.Hands.ChoiceLemmas.{class_is}
 use Rattle.run_coupling.specs.Laws.SharedCodes.{AreShared}
-use Rattle.run_coupling.specs.Coupling.Hints.{HintCodes}
+use Rattle.run_coupling.specs.Coupling.Hints.{HintCodes, LookedUp, entry_of}
 use Rattle.run_coupling.specs.Coupling.Inputs.{FlowsHaveOneHash, hash_of_flow, receive_queues}
 use Rattle.run_coupling.specs.Coupling.OwnTables.{IsByTable, class_by, goal_by, table_before}
 use Rattle.run_coupling.specs.Coupling.Queues.{FitReceiveWords}
 use Rattle.run_words.specs.Lists.{oldest_first}
-use Rattle.run_workers.specs.Records.Polling.{AllPolled, IsPolled, IsPolling, PolledTurn}
-use Rattle.run_workers.specs.Records.Polling.{table_of_turn}
+use Rattle.run_workers.specs.Records.Polling.{AllPolled, IsLastLook, IsPolled, IsPolling}
+use Rattle.run_workers.specs.Records.Polling.{PolledTurn, table_of_turn}
 use Rattle.run_workers.specs.Records.Polling.{turns_in}
 use Rattle.run_crew.specs.QueueCoupling.{IsQueueCoupled, PollersAreCoupled, words_read, words_seen}
 use Rattle.run_crew.specs.QueueCoupling.{words_of_turn}
 use Rattle.run_crew.proofs.OwnTableLemmas.{all_at, fold_rows, table_is}
-use Rattle.run_crew.proofs.RuleLemmas.{goal, own_want, rule_looks, want_loaded}
-use Rattle.run_crew.proofs.RuleLemmas.{IsLookedUp}
+use Rattle.run_crew.proofs.RuleLemmas.{choice_looked, coded_look, goal, own_want, rule_looks}
 use Rattle.run_crew.proofs.TurnListLemmas.{TurnAt, front, turn_at}
 
 abbrev turn_of : PolledTurn → Turn
@@ -92,6 +91,58 @@ fits_flows word few rounded =
     ap rounded_up (ap (λ (b : Bool). if b then word % 2 ^ 32 else 0)
     (le-leb (word % 2 ^ 32) 32768 few))
     ∙ rounded
+
+-- ---- the looks of turns
+
+-- the step by which a turn looked up its want, if there is one
+abbrev look_of : Option PolledTurn → Option ℕ
+look_of None = None
+look_of (Some s) = s.look
+
+look_inside : (o : Option PolledTurn) (n : ℕ) → look_of o ≡ Some n
+    → (s : PolledTurn) × (o ≡ Some s) × (s.look ≡ Some n)
+look_inside None n is = none-some n is
+look_inside (Some s) n is = (s, refl, is)
+
+-- what holds of all turns holds of the k-th
+of_nth : (P : PolledTurn → Type 0) (ss : List PolledTurn) (k : ℕ) (s : PolledTurn) → All P ss
+    → nth_step ss k ≡ Some s → P s
+of_nth P [] k s all at = none-some s at
+of_nth P (z ∷ zs) k s all at = elim (nth-first z zs k s at) [
+  | inl old ↦ of_nth P zs k s (All-tail P z zs all) old
+  | inr new ↦ subst P new.0 (All-head P z zs all)
+]
+
+-- the looks of turns are steps in their order
+looks_rise : (first start : ℕ) (given : Setup) (packets q : ℕ) (hints : List HintStep)
+    (ss : List PolledTurn) → AllPolled first start given packets q hints ss
+    → (j k m n : ℕ) → j < k → look_of (nth_step ss j) ≡ Some m
+    → look_of (nth_step ss k) ≡ Some n → m < n
+looks_rise first start given packets q hints [] all j k m n less a b = none-some m a
+looks_rise first start given packets q hints (s ∷ ss) all j k m n less a b =
+    let x = look_inside (nth_step (s ∷ ss) j) m a in
+    let y = look_inside (nth_step (s ∷ ss) k) n b in
+    by_last (looks_rise first start given packets q hints ss all.1 j k m n less) x
+    (nth-first s ss j x.0 x.1) y (nth-first s ss k y.0 y.1)
+  where
+    by_last : (look_of (nth_step ss j) ≡ Some m → look_of (nth_step ss k) ≡ Some n → m < n)
+        → (x : (z : PolledTurn) × (nth_step (s ∷ ss) j ≡ Some z) × (z.look ≡ Some m))
+        → (nth_step ss j ≡ Some x.0) ⊎ ((s ≡ x.0) × (j ≡ length ss))
+        → (y : (z : PolledTurn) × (nth_step (s ∷ ss) k ≡ Some z) × (z.look ≡ Some n))
+        → (nth_step ss k ≡ Some y.0) ⊎ ((s ≡ y.0) × (k ≡ length ss)) → m < n
+    by_last rest x (inl old) y (inl later) = rest (ap look_of old ∙ x.2) (ap look_of later ∙ y.2)
+    by_last rest x (inr last) y (inl later) =
+        let inside = nth-inside ss k y.0 later in
+        let at = last.1 in
+        absurd (omega (arith, inside, at, less))
+    by_last rest x (inr last) y (inr new) =
+        let at = last.1 in let end = new.1 in absurd (omega (arith, at, end, less))
+    by_last rest x (inl old) y (inr new) =
+        let look : s.look ≡ Some n = ap (λ (z : PolledTurn). z.look) new.0 ∙ y.2 in
+        let last : IsLastLook ss n =
+        subst (λ o. IfSome o (IsLastLook ss)) look all.0.last in
+        subst (λ o. IfSome o (λ l. l < n)) x.2
+        (of_nth (λ (z : PolledTurn). IfSome z.look (λ l. l < n)) ss j x.0 last old)
 
 -- ---- one queue
 
@@ -321,20 +372,19 @@ module _ (i : Input) (about : BoardSizes) (own : List BoardStep) (c : HintCodes)
             (λ j. (z.turn_is j, z.before j))
             (turn_by_table z.newer z.s z.older z.are
             (subst (λ n. FitReceiveWords q i.plan.cpus p.queue (seen n)) (sym z.before) fit)));
-        wants = λ k want u is wants. (let z = at k u is in
-            let l = was_loaded z.newer z.s z.older z.are want
-            (ap (λ (v : Turn). v.chosen.choice.want) z.turn_is ∙ wants) in (
-              l.entry,
-              subst (λ (v : Turn × ℕ). class_of (seen v.1 (2 * queues))
-                  (packet_hash given v.0.chosen.id) ≡ Some l.entry)
-                  (λ j. (z.turn_is j, z.before j)) l.there,
-              record {
-                seat = seat;
-                among = among;
-                loads = subst (λ (d : HintStep). Contains seat.steps d)
-                    (λ j. Load (sym (codes.socket l.entry) j) (sym (codes.place want) j)) l.loads;
-              },
-            ));
+        wants = λ _. record {
+          seat = seat;
+          among = among;
+          step = λ k. look_of (nth_step x.polled k);
+          each = λ k u is. (let z = at k u is in
+              subst (λ (v : Turn × ℕ). LookedUp c given.cpus seat
+              (entry_of (seen v.1 (2 * queues)) v.0.chosen.choice.class
+              (packet_hash given v.0.chosen.id)) (look_of (nth_step x.polled v.1))
+              v.0.chosen.choice.want)
+              (λ j. (z.turn_is j, z.before j)) (was_looked z.newer z.s z.older z.are));
+          order = looks_rise first about.start given p.choices.room p.queue seat.steps x.polled
+              x.are;
+        };
       }
     where
       reads_of : (a : List PolledTurn) (s : PolledTurn) (b : List PolledTurn)
@@ -370,19 +420,31 @@ module _ (i : Input) (about : BoardSizes) (own : List BoardStep) (c : HintCodes)
           (read_socket queues p.queue s.reading less)
           ((is_polled a s b are).reads _ (1, omega arith, refl))
 
-      was_loaded : (a : List PolledTurn) (s : PolledTurn) (b : List PolledTurn)
-          → x.polled ≡ a ++ s ∷ b → (want : ℕ) → s.turn.chosen.choice.want ≡ Some want
-          → IsLookedUp (seen (length b) (2 * queues)) (packet_hash given s.turn.chosen.id)
-          seat.steps want
-      was_loaded a s b are want is =
+      was_looked : (a : List PolledTurn) (s : PolledTurn) (b : List PolledTurn)
+          → x.polled ≡ a ++ s ∷ b
+          → LookedUp c given.cpus seat
+          (entry_of (seen (length b) (2 * queues)) s.turn.chosen.choice.class
+          (packet_hash given s.turn.chosen.id)) (look_of (nth_step x.polled (length b)))
+          s.turn.chosen.choice.want
+      was_looked a s b are =
           let y = is_polled a s b are in
-          subst (λ n. IsLookedUp n (packet_hash given s.turn.chosen.id) seat.steps want)
-          (sym (seen_is a s b (2 * queues) are ∙ read_socket queues p.queue s.reading less))
-          (want_loaded given.cpus s.reading.socket
-          (class_read given s.turn.chosen.id (table_of_turn first about.start b s)) y.want _
-          (entries (table_of_turn first about.start b s)) _ _
-          (packet_hash given s.turn.chosen.id) seat.steps want y.looks
-          (sym (ap (λ (z : Choice). z.want) y.rule) ∙ is))
+          let table : Table = table_of_turn first about.start b s in
+          let class = class_read given s.turn.chosen.id table in
+          let hash = packet_hash given s.turn.chosen.id in
+          subst (λ (v : ℕ × Option ℕ). LookedUp c given.cpus seat
+          (entry_of v.0 s.turn.chosen.choice.class hash) v.1 s.turn.chosen.choice.want)
+          (λ j. (
+            sym (seen_is a s b (2 * queues) are ∙ read_socket queues p.queue s.reading less) j,
+            sym (ap look_of (ap (λ zs. nth_step zs (length b)) are ∙ nth-between a s b)) j,
+          ))
+          (coded_look c codes given.cpus seat
+          (entry_of s.reading.socket s.turn.chosen.choice.class hash) s.look
+          s.turn.chosen.choice.want
+          (choice_looked given.cpus s.reading.socket class y.want
+          (desired_read given p.queue s.turn.chosen.id s.reading table y.want) (entries table)
+          (λ _. unwrap_or y.head 0)
+          (has (online_read given p.queue s.turn.chosen.id s.reading table)) hash seat.steps s.look
+          s.turn.chosen.choice y.rule y.looks))
 
 pub pollers_are_coupled : PollersAreCoupled
 pollers_are_coupled i about own c seats seat t first p x hashes few less codes among =

@@ -97,7 +97,7 @@ module _ (law : PollersAreCoupled) (i : Input) (h : History) (t : StageView) (cr
         knows = λ k u at. nothing k u at;
         knows_sock = λ k u at. nothing k u at;
         by_table = λ k u at fit. nothing k u at;
-        wants = λ k want u at is. nothing k u at;
+        wants = λ less. absurd (omega (arith, more, less));
       }
     where
       nothing : {B : Type 0} (k : ℕ) (u : Turn) → nth_step (turns_of execution p) k ≡ Some u → B
@@ -132,7 +132,7 @@ module _ (law : PollersAreCoupled) (i : Input) (h : History) (t : StageView) (cr
             knows_sock = λ p. (y.1 p).knows_sock;
             by_table = λ p. (y.1 p).by_table;
           };
-          wants = λ p k want u. (y.1 p).wants k want u;
+          wants = λ p. (y.1 p).wants;
         }
 
 pub queues_keep_coupling : PollersAreCoupled → QueuesKeepCoupling

@@ -1,10 +1,7 @@
 -- What a choice by the migration rule says of what was wanted and looked at.
-use Rattle.std.proofs.Common.{◌≡◌, ℕ, ◌<◌, ◌==◌, ◌&&◌, ◌||◌, ◌+◌, ◌-◌, not, Bool, true, false, List}
-use Rattle.std.proofs.Common.{Option, None, Some, if◌then◌else◌, sym, refl, ap, ◌∙◌, subst, arith}
-use Rattle.std.proofs.Common.{true≢false}
-use Rattle.std.specs.Prelude.{nat_le, nat_lt}
-use Rattle.std.specs.List.{Contains}
-use Rattle.std.proofs.lemmas.Bool.Decides.{eqb_tells, nat_tests}
+use Rattle.std.proofs.Common.{◌≡◌, ℕ, ◌==◌, ◌&&◌, not, Bool, true, false, List, Option, None, Some}
+use Rattle.std.proofs.Common.{if◌then◌else◌, sym, refl, ap, ◌∙◌, subst}
+use Rattle.linearization.specs.Seats.{SeatView}
 use Rattle.steer_base.specs.Choices.{by_entry, class_of, desired_cpu, looks_at_head, looks_from}
 use Rattle.steer_base.specs.Choices.{migrate}
 use Rattle.steer_base.specs.Counters.{has_reached}
@@ -16,8 +13,11 @@ use Rattle.steer_base.specs.declared.choice.Why.TheVariants.{Kept, Offline, Pass
 use Rattle.steer_base.specs.declared.cpu_mask.CpuMask.{CpuMask}
 use Rattle.hint_words.specs.declared.step.HintStep.{HintStep}
 use Rattle.hint_words.specs.declared.step.HintStep.TheVariants.{Load}
-use Rattle.hop_rule.proofs.Lists.{none-some, some-is}
-use Rattle.run_words.specs.Values.{place_in, place_word, socket_size_in}
+use Rattle.hop_rule.proofs.Lists.{none-some}
+use Rattle.run_words.specs.Values.{socket_size_in}
+use Rattle.run_coupling.specs.Coupling.Hints.{HintCodes, LookedUp, entry_of}
+use Rattle.run_coupling.specs.Laws.SharedCodes.{AreShared}
+use Rattle.run_coupling.proofs.Runs.CodeLemmas.{word-says}
 use Rattle.run_workers.specs.Hands.Pollers.{socket_entry}
 use Rattle.run_workers.specs.Records.Polling.{HasLookedUp}
 
@@ -44,6 +44,12 @@ module _ (class : ℕ) (want : Option ℕ) (desired tail current : ℕ) (seen : 
   tests_want false true true = refl
   tests_want false true false = refl
 
+  tests_class : (same on reached : Bool) → (by_tests same on reached).class ≡ Some class
+  tests_class true on reached = refl
+  tests_class false false reached = refl
+  tests_class false true true = refl
+  tests_class false true false = refl
+
   tests_head : (same on reached : Bool) (x : ℕ) → (by_tests same on reached).head ≡ Some x
       → not same && on ≡ true
   tests_head true on reached x is = none-some x is
@@ -55,6 +61,14 @@ entry_want : (class : ℕ) (want : Option ℕ) (desired tail : ℕ) (head : ℕ 
 entry_want class want desired tail head online None = refl
 entry_want class want desired tail head online (Some c) =
     tests_want class want desired tail c (head c) (c == desired) (online c)
+    (has_reached (head c) tail 0)
+
+entry_class : (class : ℕ) (want : Option ℕ) (desired tail : ℕ) (head : ℕ → ℕ) (online : ℕ → Bool)
+    (current : Option ℕ)
+    → (by_entry class want desired tail head online current).class ≡ Some class
+entry_class class want desired tail head online None = refl
+entry_class class want desired tail head online (Some c) =
+    tests_class class want desired tail c (head c) (c == desired) (online c)
     (has_reached (head c) tail 0)
 
 entry_looks : (class : ℕ) (want : Option ℕ) (desired tail : ℕ) (head : ℕ → ℕ) (online : ℕ → Bool)
@@ -71,6 +85,13 @@ pub rule_want : (class : ℕ) (want : Option ℕ) (desired : ℕ) (entries : ℕ
     (online : ℕ → Bool) → (migrate (Some class) want desired entries head online).want ≡ want
 rule_want class want desired entries head online =
     entry_want class want desired (entries class).tail head online (entries class).lane
+
+-- a choice has the class for which it is
+pub rule_class : (class want : Option ℕ) (desired : ℕ) (entries : ℕ → Entry) (head : ℕ → ℕ)
+    (online : ℕ → Bool) → (migrate class want desired entries head online).class ≡ class
+rule_class None want desired entries head online = refl
+rule_class (Some class) want desired entries head online =
+    entry_class class want desired (entries class).tail head online (entries class).lane
 
 -- a choice that keeps a head looked at one
 pub rule_looks : (class want : Option ℕ) (desired : ℕ) (entries : ℕ → Entry) (head : ℕ → ℕ)
@@ -109,62 +130,37 @@ own_want (Some class) want online plain entries head c is =
 
 -- ---- the processor that was wanted
 
--- The processor was loaded at this entry, by this size.
-pub record IsLookedUp (size : ℕ) (hash : Option ℕ) (hints : List HintStep) (cpu : ℕ) : Type 0 where
-  pub entry : ℕ
-  pub there : class_of size hash ≡ Some entry
-  pub loads : Contains hints (Load entry (place_word cpu))
-
--- a word that says a processor is that of the processor
-pub place_is : (word cpus cpu : ℕ) → place_in word cpus ≡ Some cpu → word ≡ place_word cpu
-place_is word cpus cpu is = by_test ((word == 0) || nat_lt cpus word) refl is
+-- what a choice wants was looked up
+pub choice_looked : (cpus size : ℕ) (class want : Option ℕ) (desired : ℕ) (entries : ℕ → Entry)
+    (head : ℕ → ℕ) (online : ℕ → Bool) (hash : Option ℕ) (hints : List HintStep) (look : Option ℕ)
+    (c : Choice) → c ≡ migrate class want desired entries head online
+    → HasLookedUp cpus (socket_entry (socket_size_in size) class hash) hints look want
+    → HasLookedUp cpus (entry_of size c.class hash) hints look c.want
+choice_looked cpus size class want desired entries head online hash hints look c is looks =
+    subst (λ (z : Choice). HasLookedUp cpus (entry_of size z.class hash) hints look z.want) (sym is)
+    (subst (λ o. HasLookedUp cpus (entry_of size o hash) hints look
+    (migrate class want desired entries head online).want)
+    (sym (rule_class class want desired entries head online))
+    (by_class class looks))
   where
-    by_test : (b : Bool) → ((word == 0) || nat_lt cpus word) ≡ b
-        → (if b then None else Some (word - 1)) ≡ Some cpu → word ≡ cpu + 1
-    by_test true test says = none-some cpu says
-    by_test false test says =
-        let e : word - 1 ≡ cpu = some-is (word - 1) cpu says in
-        let some : 0 < word = above (word == 0) (nat_lt cpus word) refl test in
-        omega (arith, e, some)
-      where
-        above : (a b : Bool) → (word == 0) ≡ a → (a || b) ≡ false → 0 < word
-        above true b zero either = absurd (true≢false either)
-        above false b zero either = grind (arith, nat_tests, eqb_tells)
+    by_class : (o : Option ℕ)
+        → HasLookedUp cpus (socket_entry (socket_size_in size) o hash) hints look want
+        → HasLookedUp cpus (entry_of size o hash) hints look
+        (migrate o want desired entries head online).want
+    by_class None (none, wanted) = (none, refl)
+    by_class (Some k) looked =
+        subst (HasLookedUp cpus (class_of (socket_size_in size) hash) hints look)
+        (sym (rule_want k want desired entries head online)) looked
 
-no_class : (hash : Option ℕ) (entry : ℕ) {A : Type 0} → class_of 0 hash ≡ Some entry → A
-no_class None entry is = none-some entry is
-no_class (Some hash) entry is = none-some entry is
-
--- a place by the size of a word is one by the word
-by_size : (word : ℕ) (hash : Option ℕ) (entry : ℕ)
-    → class_of (socket_size_in word) hash ≡ Some entry → class_of word hash ≡ Some entry
-by_size word hash entry is = by_test (nat_le word 65536) is
-  where
-    by_test : (b : Bool) → class_of (if b then word else 0) hash ≡ Some entry
-        → class_of word hash ≡ Some entry
-    by_test true is = is
-    by_test false is = no_class hash entry is
-
-looked_entry : (cpus word : ℕ) (hash : Option ℕ) (hints : List HintStep) (cpu : ℕ)
-    (entry : Option ℕ) → class_of (socket_size_in word) hash ≡ entry
-    → HasLookedUp cpus entry hints (Some cpu) → IsLookedUp word hash hints cpu
-looked_entry cpus word hash hints cpu None at looks = none-some cpu (sym looks)
-looked_entry cpus word hash hints cpu (Some e) at (loaded, is, has) =
-    record {
-      entry = e;
-      there = by_size word hash e at;
-      loads = subst (λ w. Contains hints (Load e w)) (place_is loaded cpus cpu (sym is)) has;
-    }
-
--- a processor that a choice wanted was loaded
-pub want_loaded : (cpus word : ℕ) (class want : Option ℕ) (desired : ℕ) (entries : ℕ → Entry)
-    (head : ℕ → ℕ) (online : ℕ → Bool) (hash : Option ℕ) (hints : List HintStep) (cpu : ℕ)
-    → HasLookedUp cpus (socket_entry (socket_size_in word) class hash) hints want
-    → (migrate class want desired entries head online).want ≡ Some cpu
-    → IsLookedUp word hash hints cpu
-want_loaded cpus word None want desired entries head online hash hints cpu looks is =
-    none-some cpu is
-want_loaded cpus word (Some class) want desired entries head online hash hints cpu looks is =
-    looked_entry cpus word hash hints cpu (class_of (socket_size_in word) hash) refl
-    (subst (HasLookedUp cpus (class_of (socket_size_in word) hash) hints)
-    (sym (rule_want class want desired entries head online) ∙ is) looks)
+-- a look is one by the codes
+pub coded_look : (c : HintCodes) → AreShared c → (cpus : ℕ) (seat : SeatView HintStep)
+    (entry look want : Option ℕ) → HasLookedUp cpus entry seat.steps look want
+    → LookedUp c cpus seat entry look want
+coded_look c codes cpus seat None look want is = is
+coded_look c codes cpus seat (Some e) look want (n, word, at, loads, wanted) = (
+  n,
+  word,
+  at,
+  loads ∙ ap (λ m. Some (Load m word)) (sym (codes.socket e)),
+  word-says c codes word cpus want (sym wanted),
+)

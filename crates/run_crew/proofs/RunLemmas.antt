@@ -273,8 +273,9 @@ module _ (laws : RecordLaws) (i : Input) (h : History) (e : RunEnds i h) where
         };
         replied = counts.1;
         codes = e.codes;
+        shared = e.shared;
         hint_seats = e.hint_seats;
-        stored = e.hints.stored;
+        hints_ended = e.hints.ended;
         meant = stores-meant;
         used = record {
           arrivals = e.arrivals.routed;

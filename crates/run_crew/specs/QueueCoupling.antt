@@ -3,7 +3,6 @@ use Rattle.std.specs.Prelude.{◌≡◌, ℕ, ◌+◌, ◌*◌, ◌<◌, ◌≤�
 use Rattle.std.specs.Prelude.{if◌then◌else◌}
 use Rattle.std.specs.List.{Contains}
 use Rattle.linearization.specs.Seats.{SeatView}
-use Rattle.steer_base.specs.Choices.{class_of}
 use Rattle.hint_words.specs.declared.step.HintStep.{HintStep}
 use Rattle.hop_rule.specs.Moments.{nth_step}
 use Rattle.hop_rule.specs.declared.sizes.BoardSizes.{BoardSizes}
@@ -17,7 +16,7 @@ use Rattle.steer_model.specs.State.Setup.{packet_hash}
 use Rattle.run_workers.specs.declared.poller.Poller.{Poller}
 use Rattle.run_workers.specs.declared.poller.Reading.{Reading}
 use Rattle.run_coupling.specs.Laws.SharedCodes.{AreShared}
-use Rattle.run_coupling.specs.Coupling.Hints.{HintCodes, WasLoaded}
+use Rattle.run_coupling.specs.Coupling.Hints.{HasWants, HintCodes}
 use Rattle.run_coupling.specs.Coupling.Inputs.{FlowsHaveOneHash, receive_queues}
 use Rattle.run_coupling.specs.Coupling.OwnTables.{IsByTable}
 use Rattle.run_coupling.specs.Coupling.Queues.{FitReceiveWords}
@@ -42,8 +41,7 @@ words_seen queues q polled k = words_of_turn queues q (nth_step polled k)
 
 -- The coupling invariants of queue p with its turns: each packet is put with its hash; each turn
 -- knows its settings, of which `seen` are the values; if they are within their ranges, the choice
--- is by the queue's own table; and each processor that was wanted was loaded, at the entry of the
--- packet's hash by the socket size that the turn read.
+-- is by the queue's own table; and its wants were loaded, by the socket size that the turn read.
 pub record IsQueueCoupled (i : Input) (about : BoardSizes) (own : List BoardStep) (c : HintCodes)
     (seats : List (SeatView HintStep)) (t : Execution) (p : ℕ) (seen : ℕ → ℕ → ℕ) : Type 0 where
   pub hashes : (k : ℕ) (u : Turn) → nth_step (turns_of t p) k ≡ Some u
@@ -55,12 +53,7 @@ pub record IsQueueCoupled (i : Input) (about : BoardSizes) (own : List BoardStep
   pub by_table : (k : ℕ) (u : Turn) → nth_step (turns_of t p) k ≡ Some u
       → FitReceiveWords (receive_queues i) i.plan.cpus p (seen k)
       → IsByTable about.start t (receive_steering (receive_queues i)) seen p k u
-  pub wants : (k want : ℕ) (u : Turn) → nth_step (turns_of t p) k ≡ Some u
-      → u.chosen.choice.want ≡ Some want
-      → (place : ℕ)
-      × (class_of (seen k (socket_word (receive_queues i)))
-      (packet_hash (setup_in i) u.chosen.id) ≡ Some place)
-      × WasLoaded seats (c.socket place) (c.place want)
+  pub wants : p < length i.plan.queues → HasWants i c seats t p seen
 
 -- A poller's record over the turns of its seat gives the coupling invariants of its queue.
 abbrev pub PollersAreCoupled : Type 0

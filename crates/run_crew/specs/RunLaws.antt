@@ -5,7 +5,7 @@ use Rattle.std.specs.List.{Contains}
 use Rattle.linearization.specs.Seats.{SeatView}
 use Rattle.steer_base.specs.Orders.{IsPrefix}
 use Rattle.steer_base.specs.declared.choice.Chosen.{Chosen}
-use Rattle.hint_words.specs.Loads.{LoadsAreStored}
+use Rattle.hint_words.specs.Closings.{HaveEnded}
 use Rattle.hint_words.specs.declared.step.HintStep.{HintStep}
 use Rattle.history.specs.Lists.{arrivals_at, list_at}
 use Rattle.history.specs.declared.arrival.Arrival.{Arrival}
@@ -38,7 +38,7 @@ pub record HintsEnd (crew : List Seated) (seats : List (SeatView HintStep))
   pub each : (seat : SeatView HintStep) → Contains seats seat
       → ((w : ℕ) × (x : Seated) × (slice_get crew w ≡ Some x) × (x.seats.hint ≡ seat))
       ⊎ (controller ≡ seat) ⊎ (wire ≡ seat)
-  pub stored : LoadsAreStored seats
+  pub ended : HaveEnded seats
 
 -- What the history copies of the input and of the boards, and its lists of what was taken.
 pub record IsCopied (i : Input) (h : History) (t : StageView) (rx_lists tx_lists : BoardLists)

@@ -7,8 +7,7 @@ use Rattle.std.proofs.lemmas.List.Elements.{All-nil}
 use Rattle.atomic_table.specs.Seated.{TableId}
 use Rattle.linearization.specs.Orders.{StepBy}
 use Rattle.linearization.specs.Seats.{SeatView}
-use Rattle.std.specs.List.{Contains}
-use Rattle.hint_words.specs.Loads.{IsStoredBy, LoadsAreStored}
+use Rattle.hint_words.specs.Closings.{HaveEnded}
 use Rattle.hint_words.specs.declared.step.HintStep.{HintStep}
 use Rattle.history.specs.declared.history.History.{History}
 use Rattle.hop_rule.specs.Boards.{IsLawful}
@@ -27,7 +26,7 @@ use Rattle.run_coupling.specs.Coupling.Hints.{LoadsAreUsed, StoresAreMeant}
 use Rattle.run_coupling.specs.Coupling.Runs.{IsOfInput, IsRun, KeepsCommands, ReceiveCoupling}
 use Rattle.run_coupling.specs.Coupling.Runs.{TransmitCoupling}
 use Rattle.run_coupling.specs.Coupling.Tries.{Try}
-use Rattle.run_coupling.proofs.Runs.CodeLemmas.{shared}
+use Rattle.run_coupling.proofs.Runs.CodeLemmas.{are-shared, shared}
 
 -- a board may end with this order
 pub record MayEnd (about : BoardSizes) (order : List (StepBy BoardStep)) : Type 0 where
@@ -71,7 +70,7 @@ ends_with about order passes lawful =
 pub record KeepsHints (i : Input) (h : History)
     (seats : List (SeatView HintStep)) (rx_own : ℕ → List BoardStep) (t : Execution)
     (seen : ℕ → ℕ → ℕ → ℕ) : Type 0 where
-  pub stored : LoadsAreStored seats
+  pub ended : HaveEnded seats
   pub meant : StoresAreMeant i h shared seats t
   pub used : LoadsAreUsed i h shared seats rx_own t seen
 
@@ -124,8 +123,9 @@ module _ (i : Input) (h : History) (rx : BoardSizes)
               applications maps_seen) (sym tx_ended.1) sent);
           replied = subst (λ own. TotalsReplied rx own h) (sym rx_ended.1) replied;
           codes = shared;
+          shared = are-shared;
           hint_seats = seats;
-          stored = hints.stored;
+          hints_ended = hints.ended;
           meant = hints.meant;
           used = subst (λ own. LoadsAreUsed i h shared seats own queues queues_seen)
               (sym rx_ended.1) hints.used;

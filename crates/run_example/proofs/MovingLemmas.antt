@@ -1,16 +1,20 @@
 -- The run with loads keeps all coupling invariants.
-use Rattle.std.proofs.Common.{◌≡◌, ◌⊎◌, ℕ, zero, suc, ◌+◌, ◌*◌, ◌<◌, inl, inr, List, [], ◌∷◌, Some}
-use Rattle.std.proofs.Common.{map, All, sym, refl, ap, subst, arith}
+use Rattle.std.proofs.Common.{◌≡◌, ◌⊎◌, ℕ, zero, suc, ◌+◌, ◌*◌, ◌^◌, ◌<◌, inl, inr, List, [], ◌∷◌}
+use Rattle.std.proofs.Common.{Option, None, Some, map, All, sym, refl, ap, subst, ◌∙◌, arith}
+use Rattle.std.specs.List.{Contains}
 use Rattle.std.specs.Prelude.{slice_get}
 use Rattle.std.proofs.lemmas.List.Elements.{All-contains, All-nil}
 use Rattle.atomic_table.specs.Seated.{TableId}
-use Rattle.linearization.specs.Seats.{SeatView, seat_view}
-use Rattle.steer_base.specs.Choices.{class_of}
+use Rattle.linearization.specs.Seats.{HasPart, IsByOne, SeatView, numbers_of, seat_view}
+use Rattle.steer_base.specs.Arrivals.{route}
 use Rattle.steer_base.specs.Sets.{those_below}
-use Rattle.hint_words.specs.Loads.{ComesFrom, IsStoredBy, LoadsAreStored}
+use Rattle.steer_base.specs.declared.filter.Filter.{Filter}
+use Rattle.hint_words.specs.Closings.{HaveEnded}
+use Rattle.hint_words.specs.Loads.{IsStoredBy}
 use Rattle.hint_words.specs.declared.step.HintStep.{HintStep}
 use Rattle.hint_words.specs.declared.step.HintStep.TheVariants.{ClearIf, Load, Store}
-use Rattle.history.specs.Lists.{list_at}
+use Rattle.history.specs.Lists.{arrival_of, list_at}
+use Rattle.history.specs.Regular.{route_of}
 use Rattle.history.specs.declared.arrival.Arrival.{Arrival}
 use Rattle.history.specs.declared.sent.Sent.{Sent}
 use Rattle.hop_rule.specs.Deliveries.{Delivery}
@@ -28,15 +32,16 @@ use Rattle.run_words.specs.Values.{filter_word, place_word}
 use Rattle.steer_model.specs.Good.Choices.{WasWritten}
 use Rattle.steer_model.specs.Good.Inputs.{setup_in}
 use Rattle.steer_model.specs.State.Setup.{app_for, packet_hash}
-use Rattle.run_example.specs.MovingRun.{MovingRunExists, flow_entry, flow_filter, its_write}
+use Rattle.run_example.specs.Moves.{of_first, of_two}
+use Rattle.run_example.specs.MovingRun.{MovingRunExists, flow_entry, flow_filter, flow_queue}
+use Rattle.run_example.specs.MovingRun.{its_queue, its_stand, its_write, moving_hint_order}
 use Rattle.run_example.specs.MovingRun.{moving_history, moving_rx, moving_rx_order}
 use Rattle.run_example.specs.MovingRun.{moving_seats, moving_tx, moving_tx_order}
 use Rattle.run_example.specs.MovingRun.{to_other_queue, wire_steps, worker_steps}
 use Rattle.run_coupling.specs.Coupling.Applications.{KeepsApplications, WasFoundAt}
-use Rattle.run_coupling.specs.Coupling.Hints.{AreRecorded, CameBy, IsRouted, LoadsAreUsed, Stands}
-use Rattle.run_coupling.specs.Coupling.Hints.{StoresAreMeant, WantsAreLoaded, WasFiltered}
-use Rattle.run_coupling.specs.Coupling.Hints.{WasLoaded}
-use Rattle.run_coupling.specs.Coupling.Hints.{WasRead}
+use Rattle.run_coupling.specs.Coupling.Hints.{AreRecorded, CameBy, IsRouted, LoadsAreUsed}
+use Rattle.run_coupling.specs.Coupling.Hints.{LookedUp, Stands, StoresAreMeant, WantsAreLoaded}
+use Rattle.run_coupling.specs.Coupling.Hints.{WasFiltered, WasLoaded, WasRead, entry_of}
 use Rattle.run_coupling.specs.Coupling.Inputs.{FlowsHaveOneHash, receive_queues}
 use Rattle.run_coupling.specs.Coupling.Runs.{ReceiveCoupling, TransmitCoupling}
 use Rattle.run_coupling.proofs.Runs.CodeLemmas.{shared}
@@ -119,51 +124,84 @@ module _ (table : TableId) where
   abbrev seats : List (SeatView HintStep)
   seats = moving_seats table
 
-  want-stored : IsStoredBy seats flow_entry (place_word 1)
-  want-stored = record {
-    seat = seat_view table 1 worker_steps;
-    among = (1, omega arith, refl);
-    stores = (4, omega arith, refl);
+  abbrev the_wire : SeatView HintStep
+  the_wire = seat_view table 0 wire_steps
+
+  abbrev the_worker : SeatView HintStep
+  the_worker = seat_view table 1 worker_steps
+
+  ended : HaveEnded seats
+  ended = record {
+    order = moving_hint_order;
+    lawful = (
+      refl,
+      (refl, (tt, (refl, (tt, (refl, (refl, (refl, (tt, (refl, (tt, (refl, (refl, (refl,
+      (refl, (refl, (tt, (refl, (refl, (refl, (refl, tt)))))))))))))))))))),
+    );
+    parts = record {
+      each = all_of_each (HasPart moving_hint_order) seats (refl, (refl, tt));
+      whole = all_of_each (IsByOne seats) moving_hint_order (
+        by-worker,
+        (by-worker, (by-worker, (by-worker, (by-wire, (by-wire, (by-worker, (by-worker, (by-worker,
+        (by-worker, (by-worker, (by-worker, (by-wire, (by-wire, (by-worker, (by-worker, (by-worker,
+        (by-worker, (by-worker, (by-wire, (by-wire, tt)))))))))))))))))))),
+      );
+    };
   }
+    where
+      by-wire : Contains (numbers_of seats) 0
+      by-wire = (0, omega arith, refl)
 
-  filter-stored : IsStoredBy seats flow_filter (filter_word to_other_queue)
-  filter-stored = record {
-    seat = seat_view table 1 worker_steps;
-    among = (1, omega arith, refl);
-    stores = (2, omega arith, refl);
-  }
+      by-worker : Contains (numbers_of seats) 1
+      by-worker = (1, omega arith, refl)
 
-  stored : LoadsAreStored seats
-  stored =
-      all_of_each (λ (s : SeatView HintStep). All (ComesFrom seats) s.steps) seats (
-        all_of_each (ComesFrom seats) wire_steps ((λ set. filter-stored), tt),
-        (
-          all_of_each (ComesFrom seats) worker_steps
-              (tt, (tt, (tt, ((λ set. want-stored), (tt, tt))))),
-          tt,
-        ),
-      )
-
-  -- a store is one of the entry or of the filter
-  abbrev IsKnown : HintStep → Type 0
-  IsKnown (Load word value) = Unit {0}
-  IsKnown (Store word value) =
+  -- a store is one of the entry, of the filter or of the queue of packet 2
+  abbrev IsOneOf : ℕ → ℕ → Type 0
+  IsOneOf word value =
       ((word ≡ flow_entry) × (value ≡ place_word 1))
       ⊎ ((word ≡ flow_filter) × (value ≡ filter_word to_other_queue))
+      ⊎ ((word ≡ its_queue 2) × (value ≡ place_word 1))
+
+  abbrev IsKnown : HintStep → Type 0
+  IsKnown (Load word value) = Unit {0}
+  IsKnown (Store word value) = IsOneOf word value
   IsKnown (ClearIf word value done) = Unit {0}
 
-  known : (word value : ℕ) → IsStoredBy seats word value
-      → ((word ≡ flow_entry) × (value ≡ place_word 1))
-      ⊎ ((word ≡ flow_filter) × (value ≡ filter_word to_other_queue))
+  known : (word value : ℕ) → IsStoredBy seats word value → IsOneOf word value
   known word value s =
       All-contains IsKnown s.seat.steps (Store word value)
       (All-contains (λ (s : SeatView HintStep). All IsKnown s.steps) seats s.seat
       (all_of_each (λ (s : SeatView HintStep). All IsKnown s.steps) seats (
-        all_of_each IsKnown wire_steps (tt, tt),
+        all_of_each IsKnown wire_steps
+            (inr (inr (refl, refl)), (tt, (tt, (tt, (tt, (tt, tt)))))),
         (
           all_of_each IsKnown worker_steps (
-            inl (refl, refl),
-            (inl (refl, refl), (inr (refl, refl), (tt, (inl (refl, refl), tt)))),
+            tt,
+            (
+              tt,
+              (
+                inl (refl, refl),
+                (
+                  tt,
+                  (
+                    tt,
+                    (
+                      tt,
+                      (
+                        inl (refl, refl),
+                        (
+                          tt,
+                          (
+                            inr (inl (refl, refl)),
+                            (tt, (tt, (tt, (inl (refl, refl), (tt, (tt, tt)))))),
+                          ),
+                        ),
+                      ),
+                    ),
+                  ),
+                ),
+              ),
+            ),
           ),
           tt,
         ),
@@ -199,26 +237,23 @@ module _ (table : TableId) where
           | inl e ↦
               (let a : place ≡ 0 = e.0 in
               let b : cpu + 1 ≡ 2 = e.1 in its-write place cpu a (omega arith))
-          | inr e ↦
-              (let a : place ≡ 65696 = e.0 in
-              let small : place < 65536 = less in absurd (omega arith))
+          | inr e ↦ (let small : place < 65536 = less in
+              absurd (past-all place (omega arith) e))
         ];
         entries = λ place q less s. elim (known (shared.entry place) (place_word q) s) [
           | inl e ↦ (let a : 65536 + place ≡ 0 = e.0 in absurd (omega arith))
-          | inr e ↦
-              (let a : 65536 + place ≡ 65696 = e.0 in
-              let small : place < 128 = less in absurd (omega arith))
+          | inr e ↦ (let small : place < 128 = less in
+              absurd (past-all (shared.entry place) (omega arith) e))
         ];
         stands = λ a cpu less s. elim (known (shared.stand a) (place_word cpu) s) [
           | inl e ↦ (let is : 65664 + a ≡ 0 = e.0 in absurd (omega arith))
-          | inr e ↦
-              (let is : 65664 + a ≡ 65696 = e.0 in
-              let small : a < 1 = less in absurd (omega arith))
+          | inr e ↦ (let small : a < 1 = less in
+              absurd (past-all (shared.stand a) (omega arith) e))
         ];
         filters = λ place f less queue cpu s.
             elim (known (shared.filter place) (filter_word f) s) [
               | inl e ↦ (let a : 65696 + place ≡ 0 = e.0 in absurd (omega arith))
-              | inr e ↦
+              | inr (inl e) ↦
                   (let a : 65696 + place ≡ 65696 = e.0 in
                   let b : 1 + f.queue + 16 * f.cpu + 512 * f.mark ≡ 530 = e.1 in
                   let few : f.queue < 2 = queue in
@@ -226,44 +261,97 @@ module _ (table : TableId) where
                   let is : f.queue ≡ 1 = omega arith in
                   subst (λ q. WasFiltered i rx_execution place q) (sym is)
                   (its-filter place (omega arith)))
+              | inr (inr e) ↦
+                  (let a : 65696 + place ≡ 69795 = e.0 in
+                  let small : place < 2 = less in absurd (omega arith))
             ];
         packets = λ x q less s. elim (known (shared.packet x) (place_word q) s) [
           | inl e ↦ (let a : 69793 + x ≡ 0 = e.0 in absurd (omega arith))
-          | inr e ↦ (let a : 69793 + x ≡ 65696 = e.0 in absurd (omega arith))
+          | inr (inl e) ↦ (let a : 69793 + x ≡ 65696 = e.0 in absurd (omega arith))
+          | inr (inr e) ↦
+              (let a : 69793 + x ≡ 69795 = e.0 in
+              let b : q + 1 ≡ 2 = e.1 in
+              let id : x ≡ 2 = omega arith in
+              let queue : 1 ≡ q = omega arith in
+              ap (λ x. (arrival_of moving_history.arrivals x).queue) id ∙ queue)
         ];
       }
+    where
+      -- the words of filters and packets are past those of entries and applications
+      past-all : (word : ℕ) {value : ℕ} → word < 65696
+          → ((word ≡ flow_filter) × (value ≡ filter_word to_other_queue))
+          ⊎ ((word ≡ its_queue 2) × (value ≡ place_word 1)) → ⊥
+      past-all word less (inl e) = let a : word ≡ 65696 = e.0 in absurd (omega arith)
+      past-all word less (inr e) = let a : word ≡ 69795 = e.0 in absurd (omega arith)
 
   -- ---- how loads were used
 
-  want-loaded : WasLoaded seats flow_entry (place_word 1)
-  want-loaded = record {
-    seat = seat_view table 1 worker_steps;
-    among = (1, omega arith, refl);
-    loads = (3, omega arith, refl);
-  }
+  -- a load of the wire, and one of the worker
+  by-wire : (word value : ℕ) → Contains wire_steps (Load word value) → WasLoaded seats word value
+  by-wire word value has =
+      record { seat = the_wire; among = (0, omega arith, refl); loads = has }
 
-  filter-loaded : WasLoaded seats flow_filter (filter_word to_other_queue)
-  filter-loaded = record {
-    seat = seat_view table 0 wire_steps;
-    among = (0, omega arith, refl);
-    loads = (0, omega arith, refl);
-  }
+  by-worker : (word value : ℕ) → Contains worker_steps (Load word value)
+      → WasLoaded seats word value
+  by-worker word value has =
+      record { seat = the_worker; among = (1, omega arith, refl); loads = has }
+
+  -- 0 says no place and no filter
+  none : (count place : ℕ) → place < count → 0 ≡ shared.place place → ⊥
+  none count place less same = let e : 0 ≡ place + 1 = same in absurd (omega arith)
+
+  no-filter : (f : Filter) → f.queue < 2 → f.cpu < 2 → f.mark < 2 ^ 32
+      → 0 ≡ shared.filter_value f → ⊥
+  no-filter f queue cpu mark same =
+      let e : 0 ≡ 1 + f.queue + 16 * f.cpu + 512 * f.mark = same in absurd (omega arith)
+
+  -- the steps by which the queues looked up their wants
+  abbrev look : (queue turn : ℕ) → Option ℕ
+  look q = of_first (of_two (Some 0) (Some 5) None) (λ k. None) q
+
+  looked : (q k : ℕ) (u : Turn) → nth_step (turns_of rx_execution q) k ≡ Some u
+      → LookedUp shared 2 the_worker
+      (entry_of (rx_seen q k (socket_word (receive_queues i))) u.chosen.choice.class
+      (packet_hash (setup_in i) u.chosen.id)) (look q k) u.chosen.choice.want
+  looked =
+      turns.rx-each (λ q k u. LookedUp shared 2 the_worker
+      (entry_of (rx_seen q k (socket_word (receive_queues i))) u.chosen.choice.class
+      (packet_hash (setup_in i) u.chosen.id)) (look q k) u.chosen.choice.want)
+      (0, 0, refl, refl, none 2) (5, 2, refl, refl, (omega arith, refl)) (refl, refl)
+
+  in-order : (q j k m n : ℕ) → j < k → look q j ≡ Some m → look q k ≡ Some n → m < n
+  in-order (suc q) j k m n less a b = none-some m a
+  in-order zero (suc (suc j)) k m n less a b = none-some m a
+  in-order zero j (suc (suc k)) m n less a b = none-some n b
+  in-order zero zero (suc zero) m n less a b =
+      let x : 0 ≡ m = some-is 0 m a in let y : 5 ≡ n = some-is 5 n b in omega arith
+  in-order zero (suc zero) (suc zero) m n less a b = absurd (omega arith)
+  in-order zero j zero m n less a b = absurd (omega arith)
 
   wants : WantsAreLoaded i moving_history shared seats rx_execution rx_seen
-  wants p k want u at =
-      turns.rx-each (λ p k u. (want : ℕ) → u.chosen.choice.want ≡ Some want
-      → (place : ℕ)
-      × (class_of (rx_seen p k (socket_word (receive_queues i)))
-      (packet_hash (setup_in i) u.chosen.id) ≡ Some place)
-      × WasLoaded seats (shared.socket place) (shared.place want))
-      (λ want is. none-some want is)
-      (λ want is. (
+  wants q less = record {
+    seat = the_worker;
+    among = (1, omega arith, refl);
+    step = look q;
+    each = looked q;
+    order = in-order q;
+  }
+
+  -- an arrival for which the wire found no filter, and no entry but the plan's
+  by-plan : (a : Arrival) → Contains wire_steps (Load flow_filter 0)
+      → Contains wire_steps (Load flow_queue 0) → route_of a ≡ route (Some 2) None 0
+      → IsRouted i moving_history shared seats (Some 2) a
+  by-plan a filter entry way =
+      inl (
         0,
-        refl,
-        subst (λ want. WasLoaded seats flow_entry (place_word want)) (some-is 1 want is)
-            want-loaded,
-      ))
-      (λ want is. none-some want is) p k u at want
+        way,
+        inr (0, 0, refl, by-wire flow_filter 0 filter, no-filter),
+        inr ((0, by-wire flow_queue 0 entry, none 2), refl),
+      )
+
+  stood : Contains worker_steps (Load its_stand 0)
+      → Stands i moving_history shared seats 0 1
+  stood has = inr ((0, by-worker its_stand 0 has, none 2), refl)
 
   used : LoadsAreUsed i moving_history shared seats rx_own rx_execution rx_seen
   used =
@@ -271,9 +359,11 @@ module _ (table : TableId) where
         arrivals = all_of_each
             (λ (a : Arrival). IsRouted i moving_history shared seats
             (packet_hash (setup_in i) a.id) a) moving_history.arrivals (
-              inl (0, refl, inl refl),
+              by-plan (record { id = 0; queue = 0; filter = None; entry = Some 0 })
+                  (5, omega arith, refl) (4, omega arith, refl) refl,
               (
-                inl (0, refl, inl refl),
+                by-plan (record { id = 1; queue = 0; filter = None; entry = Some 0 })
+                    (3, omega arith, refl) (2, omega arith, refl) refl,
                 (
                   inr (
                     0,
@@ -282,7 +372,7 @@ module _ (table : TableId) where
                     omega arith,
                     refl,
                     refl,
-                    filter-loaded,
+                    by-wire flow_filter (filter_word to_other_queue) (1, omega arith, refl),
                   ),
                   tt,
                 ),
@@ -298,8 +388,20 @@ module _ (table : TableId) where
           s.id s.rxq) (list_at moving_history.sent a)
       queues zero =
           all_of_each (λ (s : Sent). CameBy i moving_history shared (moving_seats table) s.id s.rxq)
-          (sent_first ∷ sent_second ∷ sent_third ∷ [])
-          (inl refl, (inl refl, (inl refl, tt)))
+          (sent_first ∷ sent_second ∷ sent_third ∷ []) (
+            inr ((0, by-worker (its_queue 0) 0 (11, omega arith, refl), none 2), refl),
+            (
+              inr ((0, by-worker (its_queue 1) 0 (5, omega arith, refl), none 2), refl),
+              (
+                inl (
+                  2,
+                  by-worker (its_queue 2) (place_word 1) (1, omega arith, refl),
+                  (omega arith, refl),
+                ),
+                tt,
+              ),
+            ),
+          )
       queues (suc a) =
           All-nil (λ (s : Sent). CameBy i moving_history shared (moving_seats table) s.id s.rxq)
 
@@ -307,8 +409,10 @@ module _ (table : TableId) where
           s.cpu) (list_at moving_history.sent a)
       stands zero =
           all_of_each (λ (s : Sent). Stands i moving_history shared (moving_seats table) 0 s.cpu)
-          (sent_first ∷ sent_second ∷ sent_third ∷ [])
-          (inl refl, (inl refl, (inl refl, tt)))
+          (sent_first ∷ sent_second ∷ sent_third ∷ []) (
+            stood (10, omega arith, refl),
+            (stood (4, omega arith, refl), (stood (0, omega arith, refl), tt)),
+          )
       stands (suc a) =
           All-nil (λ (s : Sent). Stands i moving_history shared (moving_seats table) (suc a) s.cpu)
 
@@ -328,7 +432,7 @@ module _ (table : TableId) where
             refl,
             read,
             refl,
-            inl refl,
+            stood (13, omega arith, refl),
             inr (inl (
               2,
               its_write,
@@ -338,8 +442,19 @@ module _ (table : TableId) where
               refl,
               read,
               refl,
-              inl refl,
-              inr (inl (2, its_write, [], 2, refl, refl, read, refl, inl refl, refl)),
+              stood (7, omega arith, refl),
+              inr (inl (
+                2,
+                its_write,
+                [],
+                2,
+                refl,
+                refl,
+                read,
+                refl,
+                stood (3, omega arith, refl),
+                refl,
+              )),
             )),
           ))
       writes (suc a) = refl
@@ -418,7 +533,7 @@ hashes (suc (suc (suc x))) less = absurd (omega arith)
 
 hints : (table : TableId)
     → KeepsHints i moving_history (moving_seats table) rx_own rx_execution rx_seen
-hints table = record { stored = stored table; meant = meant table; used = used table }
+hints table = record { ended = ended table; meant = meant table; used = used table }
 
 pub moving_run_exists : MovingRunExists
 moving_run_exists =

@@ -4,7 +4,7 @@
 -- queue.
 use Rattle.std.specs.Prelude.{◌≡◌, ℕ, ◌+◌, ◌^◌, ◌++◌, List, [], ◌∷◌, Some, None, replicate}
 use Rattle.atomic_table.specs.Seated.{TableId}
-use Rattle.linearization.specs.Orders.{StepBy, step_by}
+use Rattle.linearization.specs.Orders.{StepBy, step_by, steps_of}
 use Rattle.linearization.specs.Seats.{SeatView, seat_view}
 use Rattle.steer_base.specs.declared.choice.Chosen.{Chosen}
 use Rattle.steer_base.specs.declared.choice.Why.TheVariants.{Passed, Plain, Same, Unset}
@@ -178,17 +178,51 @@ flow_entry = hint_number (word.Socket 0)
 abbrev pub flow_filter : ℕ
 flow_filter = hint_number (word.Filter 0)
 
--- The wire loads the filter for packet 2.
-abbrev pub wire_steps : List HintStep
-wire_steps = Load flow_filter (filter_word to_other_queue) ∷ []
+-- The word of the flow's entry in the redirection table.
+abbrev pub flow_queue : ℕ
+flow_queue = hint_number (word.Redirection 2)
 
--- For its first reply the worker writes processor 1, which it loads for packet 1. It stores the
--- filter once that packet is accepted, and writes for its other two replies.
+-- The word of the application.
+abbrev pub its_stand : ℕ
+its_stand = hint_number (word.Stand 0)
+
+-- The word of a packet's queue.
+abbrev pub its_queue : ℕ → ℕ
+its_queue id = hint_number (word.Queue id)
+
+-- The wire and the worker load or store.
+abbrev pub by_wire : HintStep → StepBy HintStep
+by_wire d = step_by 0 d
+
+abbrev pub by_worker : HintStep → StepBy HintStep
+by_worker d = step_by 1 d
+
+-- The order of all steps at the hint words, the newest first. The wire finds no filter for packets
+-- 0 and 1, and no entry but the plan's. The worker finds nothing wanted for packet 0, takes it,
+-- writes processor 1, where the application stands by the plan, and replies. For packet 1 it loads
+-- what it wrote, and stores the filter once that packet is accepted, which the wire loads for
+-- packet 2. The wire announces this packet alone.
+abbrev pub moving_hint_order : List (StepBy HintStep)
+moving_hint_order =
+    by_worker (Load its_stand 0) ∷ by_worker (Load (its_queue 2) (place_word 1))
+    ∷ by_worker (Store flow_entry (place_word 1)) ∷ by_worker (Load its_stand 0)
+    ∷ by_wire (Store (its_queue 2) (place_word 1))
+    ∷ by_wire (Load flow_filter (filter_word to_other_queue))
+    ∷ by_worker (Load its_stand 0) ∷ by_worker (Load (its_queue 1) 0)
+    ∷ by_worker (Store flow_entry (place_word 1)) ∷ by_worker (Load its_stand 0)
+    ∷ by_worker (Store flow_filter (filter_word to_other_queue))
+    ∷ by_worker (Load flow_entry (place_word 1))
+    ∷ by_wire (Load flow_queue 0) ∷ by_wire (Load flow_filter 0)
+    ∷ by_worker (Load its_stand 0) ∷ by_worker (Load (its_queue 0) 0)
+    ∷ by_worker (Store flow_entry (place_word 1)) ∷ by_worker (Load its_stand 0)
+    ∷ by_worker (Load flow_entry 0)
+    ∷ by_wire (Load flow_queue 0) ∷ by_wire (Load flow_filter 0) ∷ []
+
+abbrev pub wire_steps : List HintStep
+wire_steps = steps_of 0 moving_hint_order
+
 abbrev pub worker_steps : List HintStep
-worker_steps =
-    Store flow_entry (place_word 1) ∷ Store flow_entry (place_word 1)
-    ∷ Store flow_filter (filter_word to_other_queue) ∷ Load flow_entry (place_word 1)
-    ∷ Store flow_entry (place_word 1) ∷ []
+worker_steps = steps_of 1 moving_hint_order
 
 abbrev pub moving_seats : TableId → List (SeatView HintStep)
 moving_seats table = seat_view table 0 wire_steps ∷ seat_view table 1 worker_steps ∷ []

@@ -340,7 +340,7 @@ module _ (i : Input) (s : Run) (left : Left) (over : IsOver i s)
             Contains-append_left (map hint crew) end_words x.seats.hint
             (crew-has hint crew w x there);
         each = λ seat has. by-part seat (Contains-append_cases (map hint crew) end_words seat has);
-        stored = is.stored;
+        ended = is.words;
       }
     where
       by-part : (seat : SeatView HintStep) → Contains (map hint crew) seat ⊎ Contains end_words seat

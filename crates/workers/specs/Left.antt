@@ -2,7 +2,7 @@
 use Rattle.std.specs.Prelude.{◌≡◌, ℕ, ◌++◌, List, [], ◌∷◌, Option, length, map}
 use Rattle.std.specs.List.{filter_map, range_with_len}
 use Rattle.linearization.specs.Seats.{SeatView}
-use Rattle.hint_words.specs.Loads.{LoadsAreStored}
+use Rattle.hint_words.specs.Closings.{HaveEnded}
 use Rattle.hint_words.specs.declared.step.HintStep.{HintStep}
 use Rattle.history.specs.Lists.{list_at}
 use Rattle.history.specs.declared.history.History.{History}
@@ -61,7 +61,7 @@ history_of total cut start left =
 pub record IsLeft (s : Run) (queues apps : ℕ) (left : Left) : Type 0 where
   pub rx : HasEnded s.stage.rx.sizes (rx_seats s) left.rx
   pub tx : HasEnded s.stage.tx.sizes (tx_seats s) left.tx
-  pub stored : LoadsAreStored (hint_seats s)
+  pub words : HaveEnded (hint_seats s)
   pub received : AreReceived s.wire.wire (all_played s.crew.items pollers_of queues)
   pub taken : left.queues.taken
       ≡ map (λ (p : Poller). length p.choices.items) (all_played s.crew.items pollers_of queues)

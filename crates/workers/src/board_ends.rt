@@ -1,7 +1,7 @@
 //! The closing of both boards and of the hint words.
 ghost use Rattle.std.specs.Prelude.{◌≡◌, ◌+◌, ◌<◌, ◌++◌, ◌∷◌, [], All, length};
 ghost use Rattle.board_api.specs.Closings.Closings.{HasEnded};
-ghost use Rattle.hint_words.specs.Loads.{LoadsAreStored};
+ghost use Rattle.hint_words.specs.Closings.{HaveEnded};
 ghost use Rattle.workers.specs.BoardEnds.{FillBoard, FillWords, IsLast};
 
 use crate::spare::SpareSeats;
@@ -26,7 +26,7 @@ pub fn close_all(
     requires hints { FillWords hints seats.hints controller.hint wire }
     ensures rx { HasEnded rx.sizes (seats.rx.items ++ controller.rx ∷ []) result.0 }
     ensures tx { HasEnded tx.sizes (seats.tx.items ++ controller.tx ∷ []) result.1 }
-    ensures stored { LoadsAreStored (seats.hints.items ++ controller.hint ∷ wire ∷ []) }
+    ensures words { HaveEnded (seats.hints.items ++ controller.hint ∷ wire ∷ []) }
 {
     close_words(hints, seats.hints, controller.hint, wire);
     let rx_lists = close_board(rx, seats.rx, controller.rx);
@@ -53,7 +53,7 @@ fn close_words(hints: Hints, mut seats: Journal<HintSeat>, controller: HintSeat,
     requires seats { All (λ s. s.table ≡ hints.table) seats.items }
     requires controller { controller.table ≡ hints.table }
     requires wire { wire.table ≡ hints.table }
-    ensures { LoadsAreStored (seats.items ++ controller ∷ wire ∷ []) }
+    ensures { HaveEnded (seats.items ++ controller ∷ wire ∷ []) }
 {
     seats.push(controller);
     seats.push(wire);

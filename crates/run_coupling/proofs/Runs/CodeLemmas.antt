@@ -1,15 +1,18 @@
 -- The words that the threads share, as codes of hint words.
-use Rattle.std.proofs.Common.{◌≡◌, ℕ, ◌^◌, ◌<◌, Option, None, Some, sym, refl, ap}
-use Rattle.std.proofs.Common.{◌∙◌, arith}
+use Rattle.std.proofs.Common.{◌≡◌, ℕ, ◌-◌, ◌^◌, ◌<◌, ◌≤◌, ◌==◌, Bool, true, false, Option, None}
+use Rattle.std.proofs.Common.{Some, if◌then◌else◌, sym, refl, ap, ◌∙◌, arith}
+use Rattle.std.specs.Prelude.{◌||◌, nat_lt}
+use Rattle.std.proofs.lemmas.Bool.Decides.{eqb_tells, nat_tests}
 use Rattle.steer_base.specs.declared.filter.Filter.{Filter}
 use Rattle.run_words.specs.Numbers.{hint_number}
-use Rattle.run_words.specs.Values.{filter_in, filter_word, place_word}
+use Rattle.hop_rule.proofs.Lists.{none-some, some-is}
+use Rattle.run_words.specs.Values.{filter_in, filter_word, place_in, place_word}
 use Rattle.run_words.specs.declared.hint_word.HintWord.{HintWord}
 use Rattle.run_words.specs.declared.hint_word.HintWord.TheVariants as word
 use Rattle.run_words.proofs.ValueLemmas.{only_coded, read_back}
 use Rattle.run_words.proofs.WordNumbers.{hint_words_apart}
 use Rattle.run_coupling.specs.Laws.SharedCodes.{AreShared, SharedCodesExist, TellApart, code_of}
-use Rattle.run_coupling.specs.Coupling.Hints.{HintCodes}
+use Rattle.run_coupling.specs.Coupling.Hints.{HintCodes, Says, SaysNoFilter}
 
 abbrev pub shared : HintCodes
 shared = record {
@@ -32,7 +35,7 @@ code-is (word.Filter place) = refl
 code-is word.Done = refl
 code-is (word.Queue id) = refl
 
-are-shared : AreShared shared
+pub are-shared : AreShared shared
 are-shared =
     record {
       socket = λ place. refl;
@@ -72,3 +75,40 @@ tell-apart packets =
 
 pub shared_codes : SharedCodesExist
 shared_codes = (shared, are-shared, tell-apart)
+
+-- ---- what a word says that was loaded
+
+-- a place that a word means is one of so many
+place-below : (word count place : ℕ) → place_in word count ≡ Some place → place < count
+place-below word count place is = by-test ((word == 0) || nat_lt count word) refl is
+  where
+    or-parts : (a b : Bool) → (a || b) ≡ false → (a ≡ false) × (b ≡ false)
+    or-parts true b e = absurd (cc)
+    or-parts false b e = (refl, e)
+
+    by-test : (b : Bool) → ((word == 0) || nat_lt count word) ≡ b
+        → (if b then None else Some (word - 1)) ≡ Some place → place < count
+    by-test true test says = none-some place says
+    by-test false test says =
+        let e : word - 1 ≡ place = some-is (word - 1) place says in
+        let zero : (word == 0) ≡ false = (or-parts (word == 0) (nat_lt count word) test).0 in
+        let few : nat_lt count word ≡ false = (or-parts (word == 0) (nat_lt count word) test).1 in
+        grind (arith, nat_tests, eqb_tells)
+
+-- a word says by the codes the place that it means, or that there is none
+pub word-says : (c : HintCodes) → AreShared c → (word count : ℕ) (place : Option ℕ)
+    → place_in word count ≡ place → Says c count word place
+word-says c codes word count (Some p) is =
+    (place-below word count p is, only_coded.place word count p is ∙ sym (codes.place p))
+word-says c codes word count None is = λ p less same.
+    none-some p
+    (sym is ∙ (ap (λ w. place_in w count) (same ∙ codes.place p) ∙ read_back.place count p less))
+
+-- a word that means no filter is the word of none
+pub no-filter-says : (c : HintCodes) → AreShared c → (word queues cpus : ℕ) → queues ≤ 16
+    → cpus ≤ 32 → filter_in word queues cpus ≡ None → SaysNoFilter c queues cpus word
+no-filter-says c codes word queues cpus few small is f queue cpu mark same =
+    none-some f
+    (sym is
+    ∙ (ap (λ w. filter_in w queues cpus) (same ∙ codes.filter_value f)
+    ∙ read_back.filter queues cpus f few small queue cpu mark))

@@ -1,6 +1,6 @@
 -- What the values of the shared hint words are, and how the threads use what they load.
-use Rattle.std.specs.Prelude.{◌≡◌, ◌≢◌, ◌⊎◌, ℕ, ◌<◌, ◌≤◌, true, List, [], ◌∷◌, Option, Some, None}
-use Rattle.std.specs.Prelude.{length, map, slice_get, slice_index, All}
+use Rattle.std.specs.Prelude.{◌≡◌, ◌≢◌, ◌⊎◌, ℕ, ◌^◌, ◌<◌, ◌≤◌, true, List, [], ◌∷◌, Option, Some}
+use Rattle.std.specs.Prelude.{None, length, map, slice_get, slice_index, All}
 use Rattle.std.specs.List.{Contains}
 use Rattle.linearization.specs.Seats.{SeatView}
 use Rattle.steer_base.specs.Arrivals.{filter_place, route, table_place}
@@ -35,6 +35,7 @@ use Rattle.steer_model.specs.Good.Choices.{WasWritten}
 use Rattle.steer_model.specs.Good.Inputs.{Input, setup_in}
 use Rattle.steer_model.specs.Good.Writes.{StoodAt}
 use Rattle.steer_model.specs.State.Setup.{packet_hash}
+use Rattle.run_words.specs.Values.{socket_size_in}
 use Rattle.run_coupling.specs.Coupling.Inputs.{receive_queues}
 
 -- The numbers of the hint words, by what they are about, and their values for a processor or queue
@@ -56,6 +57,16 @@ pub record WasLoaded (seats : List (SeatView HintStep)) (word value : ℕ) : Typ
   pub among : Contains seats seat
   pub loads : Contains seat.steps (Load word value)
 
+-- What a value says of a place, of so many: this one, or none of them.
+abbrev pub Says : HintCodes → (count value : ℕ) → Option ℕ → Type 0
+Says c count value (Some place) = (place < count) × (value ≡ c.place place)
+Says c count value None = (place : ℕ) → place < count → value ≢ c.place place
+
+-- The value is that of no filter which sends packets to one of so many queues.
+abbrev pub SaysNoFilter : HintCodes → (queues cpus value : ℕ) → Type 0
+SaysNoFilter c queues cpus value =
+    (f : Filter) → f.queue < queues → f.cpu < cpus → f.mark < 2 ^ 32 → value ≢ c.filter_value f
+
 -- A filter at this place that sends packets to the queue was stored for a turn of a producer: its
 -- choice moved to a processor whose lowest queue that is, and the packet was accepted there.
 pub record WasFiltered (i : Input) (t : Execution) (place queue : ℕ) : Type 0 where
@@ -68,6 +79,38 @@ pub record WasFiltered (i : Input) (t : Execution) (place queue : ℕ) : Type 0 
   pub home : home_queue (setup_in i).homes turn.chosen.choice.lane ≡ Some queue
   pub accepted : turn.answer ≡ At position
   pub there : filter_place i.plan.filters (packet_hash (setup_in i) turn.chosen.id) ≡ Some place
+
+-- ---- wants
+
+-- The entry of the socket flow table at which a want is looked up: that of the packet's hash, by
+-- the word of the table's size; none without a class.
+abbrev pub entry_of : (size : ℕ) → (class hash : Option ℕ) → Option ℕ
+entry_of size None hash = None
+entry_of size (Some class) hash = class_of (socket_size_in size) hash
+
+-- With this step of the seat the word of the entry was loaded, and what it said of the processors,
+-- of so many, is wanted. Without an entry there was no such step, and nothing is wanted.
+abbrev pub LookedUp : HintCodes → (cpus : ℕ) → SeatView HintStep → (entry step want : Option ℕ)
+    → Type 0
+LookedUp c cpus seat None step want = (step ≡ None) × (want ≡ None)
+LookedUp c cpus seat (Some entry) step want =
+    (n : ℕ) × (value : ℕ) × (step ≡ Some n)
+    × (nth_step seat.steps n ≡ Some (Load (c.socket entry) value)) × Says c cpus value want
+
+-- Each turn of a receive queue looked up its want, with steps of one seat that come in the order of
+-- the turns.
+pub record HasWants (i : Input) (c : HintCodes) (seats : List (SeatView HintStep)) (t : Execution)
+    (queue : ℕ) (seen : (turn word : ℕ) → ℕ) : Type 0 where
+  pub seat : SeatView HintStep
+  pub among : Contains seats seat
+  pub step : (turn : ℕ) → Option ℕ
+  pub each : (k : ℕ) (u : Turn) → nth_step (turns_of t queue) k ≡ Some u
+      → LookedUp c i.plan.cpus seat
+      (entry_of (seen k (socket_word (receive_queues i))) u.chosen.choice.class
+      (packet_hash (setup_in i) u.chosen.id)) (step k) u.chosen.choice.want
+  pub order : (j k m n : ℕ) → j < k → step j ≡ Some m → step k ≡ Some n → m < n
+
+-- ---- stores and loads
 
 module _ (i : Input) (h : History) (c : HintCodes) (seats : List (SeatView HintStep)) where
   -- What each store of the threads was for, by its word and value within their ranges: a write of
@@ -89,40 +132,51 @@ module _ (i : Input) (h : History) (c : HintCodes) (seats : List (SeatView HintS
 
   -- ---- how loads were used
 
-  -- The wire sent an arrival to the queue of the filter that it loaded, or else to that of the
-  -- entry
-  -- that it loaded or that the plan has; without a hash to queue 0.
+  -- A seat has loaded the word, and it said this of a place, of so many.
+  abbrev pub WordSaid : (word count : ℕ) → Option ℕ → Type 0
+  WordSaid word count place =
+      (value : ℕ) × WasLoaded seats word value × Says c count value place
+
+  -- The place, of so many, is the one that the word said when it was loaded; or the word said none,
+  -- and the place is otherwise so.
+  abbrev pub IsByWord : (word count place : ℕ) → Type 0 → Type 0
+  IsByWord word count place Otherwise =
+      WordSaid word count (Some place) ⊎ (WordSaid word count None × Otherwise)
+
+  -- The word of a filter for the hash was loaded, and said none; or there are no filters.
+  abbrev pub SawNoFilter : ℕ → Type 0
+  SawNoFilter hash =
+      (filter_place i.plan.filters (Some hash) ≡ None)
+      ⊎ ((place : ℕ) × (value : ℕ) × (filter_place i.plan.filters (Some hash) ≡ Some place)
+      × WasLoaded seats (c.filter place) value
+      × SaysNoFilter c (length i.plan.queues) i.plan.cpus value)
+
+  -- The wire sent an arrival to the queue of the filter that it loaded. Where it found none, the
+  -- queue is that of the entry, whose word it loaded, or of the plan where the word said none.
+  -- Without a hash it loaded nothing, and the queue is 0.
   abbrev pub IsRouted : Option ℕ → Arrival → Type 0
   IsRouted None a = route_of a ≡ route None None 0
   IsRouted (Some hash) a =
-      ((q : ℕ) × (route_of a ≡ route (Some hash) None q)
-      × ((slice_index i.plan.reta (table_place hash) ≡ q)
-      ⊎ WasLoaded seats (c.entry (table_place hash)) (c.place q)))
+      ((q : ℕ) × (route_of a ≡ route (Some hash) None q) × SawNoFilter hash
+      × IsByWord (c.entry (table_place hash)) (length i.plan.queues) q
+      (slice_index i.plan.reta (table_place hash) ≡ q))
       ⊎ ((place : ℕ) × (f : Filter) × (f.queue < length i.plan.queues) × (f.cpu < i.plan.cpus)
       × (route_of a ≡ route (Some hash) (Some f.queue) 0)
       × (filter_place i.plan.filters (Some hash) ≡ Some place)
       × WasLoaded seats (c.filter place) (c.filter_value f))
 
-  -- The processor of an application was loaded, or is the plan's.
+  -- The processor of an application is that of its word, which was loaded, or else the plan's.
   abbrev pub Stands : ℕ → ℕ → Type 0
-  Stands a cpu =
-      (slice_get i.plan.apps a ≡ Some cpu) ⊎ WasLoaded seats (c.stand a) (c.place cpu)
+  Stands a cpu = IsByWord (c.stand a) i.plan.cpus cpu (slice_get i.plan.apps a ≡ Some cpu)
 
-  -- The queue of a packet was loaded, or is that of its arrival.
+  -- The queue of a packet is that of its word, which was loaded, or else of its arrival.
   abbrev pub CameBy : ℕ → ℕ → Type 0
   CameBy x rxq =
-      ((arrival_of h.arrivals x).queue ≡ rxq) ⊎ WasLoaded seats (c.packet x) (c.place rxq)
+      IsByWord (c.packet x) (length i.plan.queues) rxq ((arrival_of h.arrivals x).queue ≡ rxq)
 
-  -- Each want that is set was loaded, at the entry of the packet's hash by the socket size that the
-  -- turn read.
+  -- The wants of all receive queues are loads.
   abbrev pub WantsAreLoaded : Execution → (ℕ → ℕ → ℕ → ℕ) → Type 0
-  WantsAreLoaded t seen =
-      (p k want : ℕ) (u : Turn) → nth_step (turns_of t p) k ≡ Some u
-      → u.chosen.choice.want ≡ Some want
-      → (place : ℕ)
-      × (class_of (seen p k (socket_word (receive_queues i)))
-      (packet_hash (setup_in i) u.chosen.id) ≡ Some place)
-      × WasLoaded seats (c.socket place) (c.place want)
+  WantsAreLoaded t seen = (q : ℕ) → q < length i.plan.queues → HasWants i c seats t q (seen q)
 
   -- ---- writes of applications
 

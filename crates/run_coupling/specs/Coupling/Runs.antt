@@ -1,7 +1,7 @@
 -- All that the threads of a run keep, and what the closings of its boards and hint words tell.
 use Rattle.std.specs.Prelude.{◌≡◌, ℕ, List, length}
 use Rattle.linearization.specs.Seats.{SeatView}
-use Rattle.hint_words.specs.Loads.{LoadsAreStored}
+use Rattle.hint_words.specs.Closings.{HaveEnded}
 use Rattle.hint_words.specs.declared.step.HintStep.{HintStep}
 use Rattle.history.specs.declared.history.History.{History}
 use Rattle.plan_reader.specs.Ranges.{commands_of}
@@ -25,6 +25,7 @@ use Rattle.run_coupling.specs.Coupling.Inputs.{FlowsHaveOneHash, receive_queues}
 use Rattle.run_coupling.specs.Coupling.Queues.{KeepsQueues}
 use Rattle.run_coupling.specs.Coupling.Tries.{KeepsReceiveTries, KeepsTransmitTries, Try}
 use Rattle.run_coupling.specs.Coupling.Tries.{at_receive}
+use Rattle.run_coupling.specs.Laws.SharedCodes.{AreShared}
 
 -- The history is of this input: all packets arrived, and what it copies of the input.
 pub record IsOfInput (i : Input) (h : History) : Type 0 where
@@ -83,7 +84,8 @@ pub record IsRun (i : Input) (h : History) : Type 0 where
       maps_seen
   pub replied : TotalsReplied rx (own_in rx_seats) h
   pub codes : HintCodes
+  pub shared : AreShared codes
   pub hint_seats : List (SeatView HintStep)
-  pub stored : LoadsAreStored hint_seats
+  pub hints_ended : HaveEnded hint_seats
   pub meant : StoresAreMeant i h codes hint_seats queues
   pub used : LoadsAreUsed i h codes hint_seats (own_in rx_seats) queues queues_seen

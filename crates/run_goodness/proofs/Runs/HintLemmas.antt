@@ -2,11 +2,12 @@
 use Rattle.std.proofs.Common.{◌≡◌, ◌≢◌, inl, inr, ℕ, zero, suc, ◌/◌, ◌^◌, ◌<◌, List, []}
 use Rattle.std.proofs.Common.{◌∷◌, ◌++◌, Option, Some, None, length, map, All, sym, refl, ap, ◌∙◌}
 use Rattle.std.proofs.Common.{subst}
-use Rattle.std.proofs.Common.{arith, get_or, ◌%◌, ◌≤◌}
+use Rattle.std.proofs.Common.{arith, get_or, ◌%◌, ◌≤◌, Bool, if◌then◌else◌}
+use Rattle.std.specs.List.{Contains}
 use Rattle.std.specs.Option.{option_map}
 use Rattle.std.proofs.Math.ListN.{get_or-eq_default}
 use Rattle.std.proofs.Math.Nat.{mod-lt}
-use Rattle.std.proofs.lemmas.Bool.{cases_lt, lt-ltb}
+use Rattle.std.proofs.lemmas.Bool.{cases_lt, le-leb, lt-ltb}
 use Rattle.std.proofs.lemmas.List.Elements.{All-from_get_or}
 use Rattle.std.proofs.lemmas.Option.{slice_get-map}
 use Rattle.hop_rule.proofs.Lists.{none-some, some-is}
@@ -23,6 +24,7 @@ use Rattle.steer_base.specs.declared.put.Put.TheVariants.{At}
 use Rattle.dev_flow_table.specs.Folds.{IsPutAt}
 use Rattle.steer_base.specs.declared.limits.TheConstants.{MAX_SOCKET_SIZE}
 use Rattle.hint_words.specs.Loads.{ComesFrom, IsStoredBy, LoadsAreStored}
+use Rattle.hint_words.proofs.Sources.{loads_are_stored}
 use Rattle.hint_words.specs.declared.step.HintStep.{HintStep}
 use Rattle.hint_words.specs.declared.step.HintStep.TheVariants.{Load}
 use Rattle.history.specs.Finding.{is_in}
@@ -34,6 +36,7 @@ use Rattle.history.specs.declared.sent.Sent.{Sent}
 use Rattle.history.specs.declared.sock_write.SockWrite.{SockWrite}
 use Rattle.hop_core.specs.Hop.{chosen_at, nobody}
 use Rattle.hop_rule.specs.Moments.{nth_step}
+use Rattle.hop_rule.proofs.Moments.{nth-first}
 use Rattle.hop_rule.specs.declared.step.BoardStep.{BoardStep}
 use Rattle.board_api.specs.Closings.Closings.{own_in}
 use Rattle.board_api.specs.OwnSteps.{visit_before}
@@ -51,9 +54,9 @@ use Rattle.steer_model.specs.State.Setup.{packet_hash}
 use Rattle.steer_model.specs.State.Start.{initial_settings}
 use Rattle.run_coupling.specs.Laws.Choices.{commands_before}
 use Rattle.run_coupling.specs.Coupling.Answers.{AllAnswered}
-use Rattle.run_coupling.specs.Coupling.Hints.{AreRecorded, CameBy, IsRouted, Stands, WasFiltered}
-use Rattle.run_coupling.specs.Coupling.Hints.{WasLoaded}
-use Rattle.run_coupling.specs.Coupling.Hints.{WasRead}
+use Rattle.run_words.specs.Values.{socket_size_in}
+use Rattle.run_coupling.specs.Coupling.Hints.{AreRecorded, CameBy, IsRouted, LookedUp, Says, Stands}
+use Rattle.run_coupling.specs.Coupling.Hints.{WasFiltered, WasLoaded, WasRead, WordSaid, entry_of}
 use Rattle.run_coupling.specs.Coupling.Inputs.{receive_queues}
 use Rattle.run_coupling.specs.Coupling.Runs.{IsRun}
 use Rattle.run_coupling.specs.Coupling.Tries.{Try, at_receive, settings_by, tries_up_to}
@@ -74,6 +77,16 @@ loaded-stored seats word value all w set =
     (All-contains (λ (s : SeatView HintStep). All (ComesFrom seats) s.steps) seats w.seat all
     w.among)
     w.loads set
+
+-- a step at a place is one of the steps
+nth-among : (steps : List HintStep) (n : ℕ) (d : HintStep) → nth_step steps n ≡ Some d
+    → Contains steps d
+nth-among [] n d at = none-some d at
+nth-among (e ∷ es) n d at = elim (nth-first e es n d at) [
+  | inl old ↦
+      (let c = nth-among es n d old in let less = c.1 in (suc c.0, omega (arith, less), c.2))
+  | inr new ↦ (0, omega arith, new.0)
+]
 
 each-all : {A : Type 0} (P Q : A → Type 0) (xs : List A) → ((x : A) → P x → Q x) → All P xs
     → All Q xs
@@ -111,11 +124,23 @@ module _ (i : Input) (h : History) (run : IsRun i h) where
   abbrev rx_own : ℕ → List BoardStep
   rx_own = own_in run.rx_seats
 
+  stored : LoadsAreStored run.hint_seats
+  stored =
+      loads_are_stored run.hint_seats run.hints_ended.order run.hints_ended.lawful
+      run.hints_ended.parts
+
   stored-place : (word place : ℕ) → WasLoaded run.hint_seats word (run.codes.place place)
       → IsStoredBy run.hint_seats word (run.codes.place place)
   stored-place word place w =
-      loaded-stored run.hint_seats word (run.codes.place place) run.stored w
+      loaded-stored run.hint_seats word (run.codes.place place) stored w
       (run.codes.place_is_set place)
+
+  -- a place that a word said was stored there
+  said-stored : (word count place : ℕ)
+      → WordSaid i h run.codes run.hint_seats word count (Some place)
+      → IsStoredBy run.hint_seats word (run.codes.place place)
+  said-stored word count place (value, was, says) =
+      stored-place word place (subst (WasLoaded run.hint_seats word) says.1 was)
 
   -- ---- 2: queues
 
@@ -156,14 +181,14 @@ module _ (i : Input) (h : History) (run : IsRun i h) where
   seen-by : (hash : Option ℕ) (a : Arrival) → IsRouted i h run.codes run.hint_seats hash a
       → SeenBy i h hash a
   seen-by None a is = is
-  seen-by (Some hash) a (inl (q, is, inl plan)) = inl (q, is, inl plan)
-  seen-by (Some hash) a (inl (q, is, inr loaded)) =
+  seen-by (Some hash) a (inl (q, is, none, inl said)) =
       inl (
         q,
         is,
         run.meant.entries (table_place hash) q (below-modulus hash)
-            (stored-place (run.codes.entry (table_place hash)) q loaded),
+            (said-stored (run.codes.entry (table_place hash)) (length i.plan.queues) q said),
       )
+  seen-by (Some hash) a (inl (q, is, none, inr (unset, plan))) = inl (q, is, inl plan)
   seen-by (Some hash) a (inr (place, f, queue_few, cpu_few, is, here, loaded)) =
       inr (
         f.queue,
@@ -172,7 +197,7 @@ module _ (i : Input) (h : History) (run : IsRun i h) where
             (run.meant.filters place f (class-below i.plan.filters (Some hash) place here) queue_few
             cpu_few
             (loaded-stored run.hint_seats (run.codes.filter place) (run.codes.filter_value f)
-            run.stored loaded (run.codes.filter_is_set f)))
+            stored loaded (run.codes.filter_is_set f)))
             here,
       )
 
@@ -194,14 +219,55 @@ module _ (i : Input) (h : History) (run : IsRun i h) where
       settings_of_opening i h run.rx rx_own run.rx_lists run.tries run.received.board
       run.received.tries_are (queues.all_name_queues i run.tries (runs.within i h run)) n
 
-  want-written : (q k want : ℕ) (u : Turn) → nth_step (turns_of run.queues q) k ≡ Some u
+  -- a want that is set was loaded at an entry
+  want-loaded : (size : ℕ) (class hash : Option ℕ) (seat : SeatView HintStep)
+      (step wanted : Option ℕ) (want : ℕ) → Contains run.hint_seats seat
+      → LookedUp run.codes i.plan.cpus seat (entry_of size class hash) step wanted
+      → wanted ≡ Some want → size ≤ MAX_SOCKET_SIZE
+      → (place : ℕ) × (class_of size hash ≡ Some place)
+      × WasLoaded run.hint_seats (run.codes.socket place) (run.codes.place want)
+  want-loaded size None hash seat step wanted want among looked is few =
+      none-some want (sym looked.1 ∙ is)
+  want-loaded size (Some class) hash seat step wanted want among looked is few =
+      by-entry (class_of (socket_size_in size) hash) refl looked
+    where
+      same : socket_size_in size ≡ size
+      same = ap (λ (b : Bool). if b then size else 0) (le-leb size MAX_SOCKET_SIZE few)
+
+      by-entry : (o : Option ℕ) → class_of (socket_size_in size) hash ≡ o
+          → LookedUp run.codes i.plan.cpus seat o step wanted
+          → (place : ℕ) × (class_of size hash ≡ Some place)
+          × WasLoaded run.hint_seats (run.codes.socket place) (run.codes.place want)
+      by-entry None at by = none-some want (sym by.1 ∙ is)
+      by-entry (Some entry) at (n, value, there, loads, says) = (
+        entry,
+        ap (λ m. class_of m hash) (sym same) ∙ at,
+        record {
+          seat = seat;
+          among = among;
+          loads = subst (λ v. Contains seat.steps (Load (run.codes.socket entry) v))
+              (subst (Says run.codes i.plan.cpus value) is says).1
+              (nth-among seat.steps n (Load (run.codes.socket entry) value) loads);
+        },
+      )
+
+  want-written : (q k want : ℕ) (u : Turn) → q < length i.plan.queues
+      → nth_step (turns_of run.queues q) k ≡ Some u
       → u.chosen.choice.want ≡ Some want
       → (place : ℕ)
       × (class_of (settings_at i h (commands_before run.tries run.queues q k)).sock
       (packet_hash (setup_in i) u.chosen.id) ≡ Some place)
       × WasWritten h (record { entry = place; cpu = want })
-  want-written q k want u at is =
-      let w = run.used.wants q k want u at is in
+  want-written q k want u within at is =
+      let looks = run.used.wants q within in
+      let few = (queues.fit-seen i h run.rx rx_own run.rx_lists (runs.rx-facts i h run)
+      run.tries
+      run.queues run.queues_seen run.input.hashes run.received.board run.received.tries_are
+      (runs.within i h run) run.commands.answered run.received.finds run.received.right
+      run.input.arrived run.received.queues q k u at).sock in
+      let w = want-loaded (run.queues_seen q k (socket_word (receive_queues i)))
+      u.chosen.choice.class (packet_hash (setup_in i) u.chosen.id) looks.seat (looks.step k)
+      u.chosen.choice.want want looks.among (looks.each k u at) is few in
       let sock = queues.seen-sock i h run.rx rx_own run.rx_lists (runs.rx-facts i h run) run.tries
       run.queues run.queues_seen run.input.hashes run.received.board run.received.tries_are
       (runs.within i h run) run.commands.answered run.received.finds run.received.right
@@ -217,14 +283,19 @@ module _ (i : Input) (h : History) (run : IsRun i h) where
         ap (λ n. class_of n (packet_hash (setup_in i) u.chosen.id)) same ∙ w.1,
         run.meant.sockets w.0 want
             (let place = class-below (run.queues_seen q k (socket_word (receive_queues i)))
-            (packet_hash (setup_in i) u.chosen.id) w.0 w.1 in
-            let few = (queues.fit-seen i h run.rx rx_own run.rx_lists (runs.rx-facts i h run)
-            run.tries
-            run.queues run.queues_seen run.input.hashes run.received.board run.received.tries_are
-            (runs.within i h run) run.commands.answered run.received.finds run.received.right
-            run.input.arrived run.received.queues q k u at).sock in omega arith)
+            (packet_hash (setup_in i) u.chosen.id) w.0 w.1 in omega (arith, place, few))
             (stored-place (run.codes.socket w.0) want w.2),
       )
+
+  -- a queue with a choice is one of the plan
+  is-queue : (q k : ℕ) → k < length (list_at h.choices q) → q < length i.plan.queues
+  is-queue q k less = elim (cases_lt q (length i.plan.queues)) [
+    | inl within ↦ within
+    | inr past ↦ (let n = run.received.queues.choice_lists in
+        let beyond : length h.choices ≤ q = omega (arith, n, past) in
+        let none = ap length (get_or-eq_default h.choices [] beyond) in
+        absurd (omega (arith, none, less)))
+  ]
 
   pub wants-are-written : WantsAreWritten i h (commands_before run.tries run.queues)
   wants-are-written q k want less is =
@@ -240,15 +311,16 @@ module _ (i : Input) (h : History) (run : IsRun i h) where
       × (class_of (settings_at i h (commands_before run.tries run.queues q k)).sock
       (packet_hash (setup_in i) c.id) ≡ Some place)
       × WasWritten h (record { entry = place; cpu = want })) chosen
-      (want-written q k want u.0 u.1 (ap (λ (c : Chosen). c.choice.want) chosen ∙ is))
+      (want-written q k want u.0 (is-queue q k less) u.1
+      (ap (λ (c : Chosen). c.choice.want) chosen ∙ is))
 
   -- ---- 9: writes
 
   stood-at : (a cpu : ℕ) → a < length i.plan.apps → Stands i h run.codes run.hint_seats a cpu
       → StoodAt i h a cpu
-  stood-at a cpu less (inl plan) = inl plan
-  stood-at a cpu less (inr loaded) =
-      run.meant.stands a cpu less (stored-place (run.codes.stand a) cpu loaded)
+  stood-at a cpu less (inl said) =
+      run.meant.stands a cpu less (said-stored (run.codes.stand a) i.plan.cpus cpu said)
+  stood-at a cpu less (inr (unset, plan)) = inl plan
 
   -- a size that was read in a visit is that of its number
   size-is : (size : ℕ) (w : WasRead i h run.codes run.hint_seats rx_own size)
@@ -339,9 +411,10 @@ module _ (i : Input) (h : History) (run : IsRun i h) where
 
   came-by : (x rxq : ℕ) → x < length i.packets → CameBy i h run.codes run.hint_seats x rxq
       → rxq ≡ (arrival_of h.arrivals x).queue
-  came-by x rxq less (inl is) = sym is
-  came-by x rxq less (inr loaded) =
-      sym (run.meant.packets x rxq less (stored-place (run.codes.packet x) rxq loaded))
+  came-by x rxq less (inl said) =
+      sym (run.meant.packets x rxq less
+      (said-stored (run.codes.packet x) (length i.plan.queues) rxq said))
+  came-by x rxq less (inr (unset, is)) = sym is
 
   each-known : (a : ℕ) → All (λ (s : Sent). s.id < length i.packets) (list_at h.sent a)
   each-known a =

@@ -1,7 +1,6 @@
 -- The steps of a seat at the hint words stay while its actors go on.
-use Rattle.std.proofs.Common.{◌≡◌, ◌⊎◌, inl, inr, ℕ, List, [], ◌∷◌, Option, None, Some, sym, ap}
-use Rattle.std.proofs.Common.{subst}
-use Rattle.std.specs.List.{Contains}
+use Rattle.std.proofs.Common.{◌≡◌, ◌⊎◌, inl, inr, ℕ, ◌<◌, List, [], ◌∷◌, Option, None, Some}
+use Rattle.std.proofs.Common.{IfSome, length, refl, sym, ap, ◌∙◌, subst}
 use Rattle.linearization.specs.Seats.{SeatView}
 use Rattle.steer_base.specs.Arrivals.{filter_place}
 use Rattle.steer_base.specs.declared.choice.Choice.{Choice}
@@ -10,6 +9,8 @@ use Rattle.steer_base.specs.declared.put.Put.{Put}
 use Rattle.steer_base.specs.declared.put.Put.TheVariants.{At, Dropped}
 use Rattle.hint_words.specs.declared.step.HintStep.{HintStep}
 use Rattle.hint_words.specs.declared.step.HintStep.TheVariants.{Load}
+use Rattle.hop_rule.specs.Moments.{nth_step}
+use Rattle.hop_rule.proofs.Moments.{nth-inside, nth-last, nth-old}
 use Rattle.board_api.specs.Seats.{BoardSeatView}
 use Rattle.steer_model.specs.State.Setup.{Setup, packet_hash}
 use Rattle.steer_model.specs.Steps.Pollers.{filter_for}
@@ -18,7 +19,7 @@ use Rattle.run_workers.specs.Hands.Pollers.{Waits}
 use Rattle.run_workers.specs.declared.poller.Poller.{Poller}
 use Rattle.run_workers.specs.Records.Polling.{HasLookedUp}
 use Rattle.run_workers.specs.Records.Growth.{Grows}
-use Rattle.run_workers.proofs.Records.ListLemmas.{contains_first, contains_later, grows_both}
+use Rattle.run_workers.proofs.Records.ListLemmas.{grows_both}
 
 abbrev Hint : Type 0
 Hint = SeatView HintStep
@@ -51,24 +52,43 @@ asks_stay given filters id choice (At position) old new is =
 asks_stay given filters id choice (Dropped number accepted pulled cause) old new is =
     steps_same old new is
 
+-- the step of a look at this entry, after so many steps
+abbrev pub look_at : Option ℕ → ℕ → Option ℕ
+look_at None n = None
+look_at (Some entry) n = Some n
+
 pub looked_up : (cpus : ℕ) (entry : Option ℕ) (old mid : Hint) (want : Option ℕ)
-    → LooksUp cpus entry old mid want → HasLookedUp cpus entry mid.steps want
-looked_up cpus None old mid want is = is.0
+    → LooksUp cpus entry old mid want
+    → HasLookedUp cpus entry mid.steps (look_at entry (length old.steps)) want
+looked_up cpus None old mid want is = (refl, is.0)
 looked_up cpus (Some e) old mid want (word, wanted, is) = (
+  length old.steps,
   word,
+  refl,
+  ap (λ (h : Hint). nth_step h.steps (length old.steps)) is ∙ nth-last (Load e word) old.steps,
   wanted,
-  subst (λ ds. Contains ds (Load e word)) (sym (ap (λ (h : Hint). h.steps) is))
-      (contains_first (Load e word) old.steps),
 )
 
-pub looked_stays : (cpus : ℕ) (entry : Option ℕ) (ds es : List HintStep) (want : Option ℕ)
-    → Grows ds es → HasLookedUp cpus entry ds want → HasLookedUp cpus entry es want
-looked_stays cpus None ds es want stay is = is
-looked_stays cpus (Some e) ds es want stay (word, wanted, has) = (
+pub looked_stays : (cpus : ℕ) (entry : Option ℕ) (ds es : List HintStep) (look want : Option ℕ)
+    → Grows ds es → HasLookedUp cpus entry ds look want → HasLookedUp cpus entry es look want
+looked_stays cpus None ds es look want stay is = is
+looked_stays cpus (Some e) ds es look want (more, grown) (n, word, at, loads, wanted) = (
+  n,
   word,
+  at,
+  ap (λ hints. nth_step hints n) grown
+      ∙ (nth-old more ds n (nth-inside ds n (Load e word) loads) ∙ loads),
   wanted,
-  contains_later ds es (Load e word) stay has,
 )
+
+-- a look was one of the steps
+pub look_below : (cpus : ℕ) (entry : Option ℕ) (ds : List HintStep) (look want : Option ℕ)
+    → HasLookedUp cpus entry ds look want → IfSome look (λ n. n < length ds)
+look_below cpus None ds look want is =
+    subst (λ o. IfSome o (λ n. n < length ds)) (sym is.0) tt
+look_below cpus (Some e) ds look want (n, word, at, loads, wanted) =
+    subst (λ o. IfSome o (λ n. n < length ds)) (sym at)
+    (nth-inside ds n (Load e word) loads)
 
 pub polls_keep_hints : (given : Setup) (filters : ℕ) (p q : Poller) (old new : BoardSeatView)
     (hint_old hint_new : Hint) → Polls given filters p q old new hint_old hint_new

@@ -1,13 +1,13 @@
 -- A poller's record of its turns, after a poll and beside other actors.
 use Rattle.std.proofs.Common.{is_some}
 use Rattle.std.proofs.Common.{◌≡◌, ◌⊎◌, inl, inr, ℕ, ◌<◌, List, [], ◌∷◌, ◌++◌, Bool, true, false}
-use Rattle.std.proofs.Common.{None, Some, IfSome, if◌then◌else◌, map, sym, refl, ap, ◌∙◌}
-use Rattle.std.proofs.Common.{subst, arith}
+use Rattle.std.proofs.Common.{Option, None, Some, IfSome, if◌then◌else◌, length, map, sym, refl}
+use Rattle.std.proofs.Common.{ap, ◌∙◌, subst, arith}
 use Rattle.std.specs.Prelude.{nat_lt}
 use Rattle.std.specs.List.{filter_map}
 use Rattle.std.proofs.lemmas.Bool.Decides.{nat_tests}
 use Rattle.std.proofs.lemmas.List.{map-append}
-use Rattle.std.proofs.lemmas.List.Elements.{filter_map-append}
+use Rattle.std.proofs.lemmas.List.Elements.{All-cons, All-nil, filter_map-append}
 use Rattle.rtrb.specs.Ring.{received}
 use Rattle.linearization.specs.Orders.{StepBy, step_by, steps_of}
 use Rattle.linearization.specs.Seats.{SeatView}
@@ -20,19 +20,23 @@ use Rattle.hop_rule.specs.declared.step.BoardStep.TheVariants.{Gate}
 use Rattle.hop_rule.specs.declared.step.GateStep.TheVariants.{Left, Turned}
 use Rattle.hop_delivery.specs.Orders.Turns.{Explained, Turn}
 use Rattle.hop_delivery.proofs.Orders.TurnLemmas.{explained_more}
-use Rattle.steer_model.specs.State.Setup.{Setup}
-use Rattle.run_workers.specs.Hands.Pollers.{IsPoller, SteersHand, Takes, Visits, Waits, count_after}
+use Rattle.steer_model.specs.State.Setup.{Setup, packet_hash}
+use Rattle.run_words.specs.Values.{socket_size_in}
+use Rattle.run_workers.specs.Hands.Pollers.{IsPoller, SteersHand, Takes, Visits, Waits, class_read}
+use Rattle.run_workers.specs.Hands.Pollers.{count_after, refreshed, socket_entry}
 use Rattle.run_workers.specs.declared.poller.Poller.{Poller}
 use Rattle.run_workers.proofs.Hands.VisitLemmas.{visits_explain}
 use Rattle.run_workers.specs.Records.Growth.{Grows, TurnsGrow, held}
-use Rattle.run_workers.specs.Records.Polling.{AllPolled, IsPolled, IsPolling, PolledTurn}
+use Rattle.run_workers.specs.Records.Polling.{AllPolled, IsLastLook, IsPolled, IsPolling}
+use Rattle.run_workers.specs.Records.Polling.{PolledTurn}
 use Rattle.run_workers.specs.Records.Polling.{choices_in}
 use Rattle.run_workers.specs.Records.Polling.{last_flows, packet_of_number, ring_packets}
 use Rattle.run_workers.specs.Records.Polling.{polled_table}
 use Rattle.run_workers.specs.Records.PollingLaws.{PollersBegin, PollersGoOn, PollersStay, PollsOn}
 use Rattle.run_workers.specs.Records.Storing.{StoresAreFor}
 use Rattle.run_workers.proofs.Records.StoringLemmas.{visit_stores}
-use Rattle.run_workers.proofs.Records.HintLemmas.{asks_stay, looked_stays, looked_up}
+use Rattle.run_workers.proofs.Records.HintLemmas.{asks_stay, look_at, look_below, looked_stays}
+use Rattle.run_workers.proofs.Records.HintLemmas.{looked_up}
 use Rattle.run_workers.proofs.Records.HintLemmas.{polls_keep_hints}
 use Rattle.run_workers.proofs.Records.ListLemmas.{append_none, noted_more, own_turn}
 use Rattle.run_workers.proofs.Hands.DeltaLemmas.{without_reason}
@@ -50,7 +54,8 @@ module _ (first start : ℕ) (given : Setup) (packets q : ℕ) (ds es : List Hin
         hash = x.hash;
         reads = x.reads;
         want = x.want;
-        looks = looked_stays given.cpus _ ds es x.want stay x.looks;
+        looks = looked_stays given.cpus _ ds es s.look x.want stay x.looks;
+        last = x.last;
         head = x.head;
         loads = x.loads;
         looked = x.looked;
@@ -61,6 +66,17 @@ module _ (first start : ℕ) (given : Setup) (packets q : ℕ) (ds es : List Hin
       → AllPolled first start given packets q es ss
   all_stay [] all = all
   all_stay (s ∷ ss) all = (polled_stays ss s all.0, all_stay ss all.1)
+
+-- the looks of all turns are below the number of steps
+looks_below : (first start : ℕ) (given : Setup) (packets q : ℕ) (ds : List HintStep)
+    (ss : List PolledTurn) → AllPolled first start given packets q ds ss
+    → IsLastLook ss (length ds)
+looks_below first start given packets q ds [] all =
+    All-nil (λ (s : PolledTurn). IfSome s.look (λ m. m < length ds))
+looks_below first start given packets q ds (s ∷ ss) all =
+    All-cons (λ (s : PolledTurn). IfSome s.look (λ m. m < length ds)) s ss
+    (look_below given.cpus _ ds s.look all.0.want all.0.looks)
+    (looks_below first start given packets q ds ss all.1)
 
 pub pollers_begin : PollersBegin
 pollers_begin given first start p turns hints hand flows items accepted table ring own =
@@ -157,8 +173,21 @@ module _ (given : Setup) (filters first start id : ℕ) (mid q : Poller) (turns 
       subst (λ (z : ℕ × Table). Visits given filters mid.queue z.0 q.flows z.1 q.table mid.accepted
       q.accepted turn old new hint_old hint_new) (λ i. (x.flows i, x.table i)) steers.visit
 
+  -- the entry at which it looked up the socket flow table
+  abbrev entry : Option ℕ
+  entry =
+      socket_entry (socket_size_in visit.reading.socket)
+      (class_read given turn.chosen.id
+      (refreshed (last_flows first start x.polled) visit.reading.flows
+      (polled_table first start x.polled)))
+      (packet_hash given turn.chosen.id)
+
   abbrev polled_turn : PolledTurn
-  polled_turn = record { turn = turn; reading = visit.reading }
+  polled_turn = record {
+    turn = turn;
+    reading = visit.reading;
+    look = look_at entry (length hint_old.steps);
+  }
 
   hints_stay : Grows hint_old.steps hint_new.steps
   hints_stay =
@@ -171,6 +200,12 @@ module _ (given : Setup) (filters first start id : ℕ) (mid q : Poller) (turns 
         steers = inr (id, hand, steers);
       })
 
+  -- all looks so far are among the steps so far
+  is_last : (o : Option ℕ) → IfSome (look_at o (length hint_old.steps)) (IsLastLook x.polled)
+  is_last None = tt
+  is_last (Some e) =
+      looks_below first start given mid.choices.room mid.queue hint_old.steps x.polled x.are
+
   is_polled : IsPolled first start given mid.choices.room mid.queue hint_new.steps x.polled
       polled_turn
   is_polled =
@@ -179,10 +214,12 @@ module _ (given : Setup) (filters first start id : ℕ) (mid q : Poller) (turns 
         hash = visit.hash;
         reads = visit.reads;
         want = visit.want;
-        looks = looked_stays given.cpus _ visit.hint_mid.steps hint_new.steps visit.want
+        looks = looked_stays given.cpus entry visit.hint_mid.steps hint_new.steps
+            (look_at entry (length hint_old.steps)) visit.want
             (asks_stay given filters turn.chosen.id turn.chosen.choice turn.answer visit.hint_mid
             hint_new visit.asks)
-            (looked_up given.cpus _ hint_old visit.hint_mid visit.want visit.looks);
+            (looked_up given.cpus entry hint_old visit.hint_mid visit.want visit.looks);
+        last = is_last entry;
         head = visit.head;
         loads = visit.loads;
         looked = visit.looked;

@@ -1,7 +1,7 @@
 -- What a poller keeps of all its turns: what each read, and by what it chose. Lists of turns and
 -- of steps have the newest first (kernel scaling chapter, sections RPS and RFS).
 use Rattle.std.specs.Prelude.{◌≡◌, ℕ, ◌<◌, false, List, [], ◌∷◌, ◌++◌, Option, Some, None}
-use Rattle.std.specs.Prelude.{length, map, nat_lt, IfSome, if◌then◌else◌}
+use Rattle.std.specs.Prelude.{length, map, nat_lt, All, IfSome, if◌then◌else◌}
 use Rattle.std.specs.List.{Contains, filter_map}
 use Rattle.std.specs.Option.{is_some}
 use Rattle.rtrb.specs.Ring.{received}
@@ -12,6 +12,7 @@ use Rattle.dev_flow_table.specs.Folds.{after_turn}
 use Rattle.dev_flow_table.specs.Tables.{Table, cleared}
 use Rattle.hint_words.specs.declared.step.HintStep.{HintStep}
 use Rattle.hint_words.specs.declared.step.HintStep.TheVariants.{Load}
+use Rattle.hop_rule.specs.Moments.{nth_step}
 use Rattle.hop_rule.specs.declared.step.BoardStep.{BoardStep}
 use Rattle.hop_delivery.specs.Orders.Turns.{Turn}
 use Rattle.steer_model.specs.State.Setup.{Setup, packet_hash}
@@ -24,10 +25,12 @@ use Rattle.run_workers.specs.declared.poller.Reading.{Reading}
 use Rattle.run_words.specs.Lists.{oldest_first}
 use Rattle.run_workers.specs.Records.Growth.{held}
 
--- A turn of a poller, and the settings that it read in its visit.
+-- A turn of a poller, the settings that it read in its visit, and the step of its seat at the hint
+-- words by which it looked up the socket flow table, if it did.
 pub record PolledTurn : Type 0 where
   pub turn : Turn
   pub reading : Reading
+  pub look : Option ℕ
 
 -- the turns alone
 abbrev pub turns_in : List PolledTurn → List Turn
@@ -44,12 +47,17 @@ packet_of_number packets x = if nat_lt x packets then Some x else None
 abbrev pub ring_packets : ℕ → List ℕ → List ℕ
 ring_packets packets numbers = filter_map (packet_of_number packets) numbers
 
--- The processor that was wanted is that of a word that was loaded for this entry; without an entry
--- none was.
-abbrev pub HasLookedUp : ℕ → Option ℕ → List HintStep → Option ℕ → Type 0
-HasLookedUp cpus None hints want = want ≡ None
-HasLookedUp cpus (Some entry) hints want =
-    (word : ℕ) × (want ≡ place_in word cpus) × Contains hints (Load entry word)
+-- The processor that was wanted is that of a word that was loaded for this entry with this step;
+-- without an entry there was no such step, and none was wanted.
+abbrev pub HasLookedUp : ℕ → (entry : Option ℕ) → List HintStep → (look want : Option ℕ) → Type 0
+HasLookedUp cpus None hints look want = (look ≡ None) × (want ≡ None)
+HasLookedUp cpus (Some entry) hints look want =
+    (n : ℕ) × (word : ℕ) × (look ≡ Some n) × (nth_step hints n ≡ Some (Load entry word))
+    × (want ≡ place_in word cpus)
+
+-- A look with this step came after those of all these turns.
+abbrev pub IsLastLook : List PolledTurn → ℕ → Type 0
+IsLastLook ss n = All (λ (s : PolledTurn). IfSome s.look (λ m. m < n)) ss
 
 -- how many of these turns had their packets accepted
 abbrev pub accepted_turns : List PolledTurn → ℕ
@@ -86,7 +94,8 @@ module _ (first start : ℕ) where
       pub looks : HasLookedUp given.cpus
           (socket_entry (socket_size_in s.reading.socket)
           (class_read given s.turn.chosen.id (table_of_turn ss s))
-          (packet_hash given s.turn.chosen.id)) hints want
+          (packet_hash given s.turn.chosen.id)) hints s.look want
+      pub last : IfSome s.look (IsLastLook ss)
       pub head : Option ℕ
       pub loads : IfSome head (LoadedHead (table_of_turn ss s)
           (class_read given s.turn.chosen.id (table_of_turn ss s)) s.turn.early)

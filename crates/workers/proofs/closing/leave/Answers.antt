@@ -1,7 +1,7 @@
 use Rattle.std.proofs.Common.{◌++◌, ◌∷◌, [], map, ap, ◌∙◌, subst}
 use Rattle.linearization.specs.Seats.{SeatView}
 use Rattle.steer_base.specs.Journals.{Journal}
-use Rattle.hint_words.specs.Loads.{LoadsAreStored}
+use Rattle.hint_words.specs.Closings.{HaveEnded}
 use Rattle.hint_words.specs.declared.step.HintStep.{HintStep}
 use Rattle.board_api.specs.Closings.Closings.{HasEnded}
 use Rattle.board_api.specs.Seats.{BoardSeatView}
@@ -85,8 +85,8 @@ returns g c =
           (j.items ++ own.rx ∷ []) closed.result.0) parts.rx closed.ensures.rx;
       tx = subst (λ (j : Journal BoardSeatView). HasEnded run.stage.tx.sizes
           (j.items ++ own.tx ∷ []) closed.result.1) parts.tx closed.ensures.tx;
-      stored = subst (λ (j : Journal (SeatView HintStep)). LoadsAreStored
-          (j.items ++ own.hint ∷ run.wire.seat ∷ [])) parts.hints closed.ensures.stored;
+      words = subst (λ (j : Journal (SeatView HintStep)). HaveEnded
+          (j.items ++ own.hint ∷ run.wire.seat ∷ [])) parts.hints closed.ensures.words;
       received = subst (AreReceived run.wire.wire) polled c.take_queues.ensures.received;
       taken = c.take_queues.ensures.taken ∙ ap (map _) polled;
       choices = c.take_queues.ensures.choices ∙ ap (map _) polled;
