@@ -29,6 +29,8 @@ RUN = [
     ("the output is the report of exactly one history",
      [("headline.specs.Headline", "Says"), ("headline.specs.Headline", "Reports")]),
     ("which is good: the eleven clauses", [("steer_model.specs.Good.GoodHistory", "Good")]),
+    ("and whose lists are those of one order at each hop",
+     [("headline.specs.HopOrders", "HopOrder"), ("headline.specs.ByRun", "IsByRun")]),
     ("points 1 to 4, as of a replay", [("headline.specs.Headline", "IsRight")]),
     ("all packets that were not dropped are through, in order",
      [("headline.specs.Live", "IsWhole")]),
@@ -163,7 +165,8 @@ def side_laws():
 
 PARTS = {
     "laws of a replay": lambda: law_table([("replay", "every_report_has_the_headline")]),
-    "laws of a run": lambda: law_table([("replay", "every_run_has_the_headline")]),
+    "laws of a run": lambda: law_table([("replay", "every_run_has_the_headline"),
+                                        ("run_promise", "a_run_is_by_its_threads")]),
     "laws of the threads": thread_laws,
     "laws of the verdict": lambda: law_table(VERDICT_LAWS),
     "reading of a replay": lambda: reading_list(REPLAY),

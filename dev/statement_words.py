@@ -49,8 +49,9 @@ PAGES = {
         "root": ("headline.specs.Live", "LiveHeadline"),
         "states": joined("""
             The output of a run with threads is the report of exactly one history; that history is
-            good, points 1 to 4 hold of it, and every packet that was not dropped has come to its
-            inbox, and its reply to the port."""),
+            good, its lists are those of one order of all that was done at each hop, points 1 to 4
+            hold of it, and every packet that was not dropped has come to its inbox, and its reply
+            to the port."""),
         "promised": joined("""
             The clause `call` of `steer_top::steer`, the function that `main` calls, says: if
             `run PLAN CAPTURE` returns status 0, the text that went out has the `LiveHeadline`
@@ -105,6 +106,7 @@ PARTS = {
         ("What the bytes say", ("says",), ()),
         ("The report", ("reports", "only"), ()),
         ("The history is good", ("good",), ()),
+        ("The history is that of a run", ("by_run",), ()),
         ("The history is right", ("right",), ()),
         ("All is delivered", ("whole",), ()),
     ),

@@ -12,3 +12,5 @@ pub mod PutMomentLemmas
 pub mod ReplayMomentLemmas
 mod ExampleLemmas
 mod ForgedLemmas
+pub mod ListOrderLemmas
+mod ForgedRunLemmas

@@ -1,7 +1,7 @@
 -- One order of all that was done at a hop, as the lists of a history show it. The lists keep values
 -- without their moments; here moments are numbers, and of each moment the counts of the lanes and
 -- of the out lists are known, that is, how far each list had grown.
-use Rattle.std.specs.Prelude.{ℕ, ◌≡◌, ◌+◌, ◌<◌, ◌≤◌, List, [], ◌∷◌, Some, length, slice_get}
+use Rattle.std.specs.Prelude.{ℕ, suc, ◌≡◌, ◌+◌, ◌<◌, ◌≤◌, List, [], ◌∷◌, Some, length, slice_get}
 use Rattle.history.specs.Lists.{lane_at, list_at}
 use Rattle.history.specs.declared.history.History.{History}
 use Rattle.history.specs.declared.lane_list.LaneList.{LaneList}
@@ -86,9 +86,10 @@ pub record IsServed (c : HopCounts) (l : ℕ) : Type 0 where
 
 -- No count is over what the lists have in the end.
 pub record AreWithin (o : HopLists) (c : HopCounts) : Type 0 where
-  pub accepted : (l : ℕ) → c.accepted l ≤ length (lane_at o.lanes l).accepted
-  pub dropped : (l : ℕ) → c.dropped l ≤ length (lane_at o.lanes l).drops
-  pub delivered : (out : ℕ) → c.delivered out ≤ length (list_at o.outs out)
+  pub accepted : (l : ℕ) → l < length o.lanes
+      → c.accepted l ≤ length (lane_at o.lanes l).accepted
+  pub dropped : (l : ℕ) → l < length o.lanes → c.dropped l ≤ length (lane_at o.lanes l).drops
+  pub delivered : (out : ℕ) → out < length o.outs → c.delivered out ≤ length (list_at o.outs out)
 
 -- ---- what is done at a moment
 
@@ -96,13 +97,13 @@ module _ (at : ℕ → HopCounts) where
   -- At this moment lane l accepts a packet, with n before it.
   pub record AcceptsAt (moment l n : ℕ) : Type 0 where
     pub before : (at moment).accepted l ≡ n
-    pub after : (at (moment + 1)).accepted l ≡ n + 1
+    pub after : (at (suc moment)).accepted l ≡ suc n
 
   -- At this moment lane l drops a packet, with j drops before it, and the drop keeps the two counts
   -- of the moment.
   pub record DropsAt (moment l j : ℕ) (d : LaneDrop) : Type 0 where
     pub before : (at moment).dropped l ≡ j
-    pub after : (at (moment + 1)).dropped l ≡ j + 1
+    pub after : (at (suc moment)).dropped l ≡ suc j
     pub accepted : d.accepted ≡ (at moment).accepted l
     pub pulled : d.pulled ≡ (at moment).pulled l
 
@@ -118,10 +119,10 @@ module _ (at : ℕ → HopCounts) where
   -- not retired, and an out list got it, with so many before it.
   pub record DeliversAt (l n out place : ℕ) : Type 0 where
     pub moment : ℕ
-    pub pulled : (at moment).pulled l ≡ n + 1
+    pub pulled : (at moment).pulled l ≡ suc n
     pub retired : (at moment).retired l ≡ n
     pub before : (at moment).delivered out ≡ place
-    pub after : (at (moment + 1)).delivered out ≡ place + 1
+    pub after : (at (suc moment)).delivered out ≡ suc place
 
 -- ---- the order
 

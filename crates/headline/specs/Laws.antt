@@ -12,6 +12,7 @@ use Rattle.steer_model.specs.Good.GoodHistory.{Good}
 use Rattle.steer_model.specs.Good.Inputs.{Input}
 use Rattle.steer_model.specs.State.Ranges.{AreOfFlows}
 use Rattle.steer_model.specs.State.Start.{replayed}
+use Rattle.headline.specs.ByRun.{IsByRun}
 use Rattle.headline.specs.Headline.{Headline, IsOfTheRun, IsRight, Says}
 use Rattle.headline.specs.Live.{IsWhole, LiveHeadline}
 
@@ -43,13 +44,13 @@ abbrev pub GoodHistoriesAreWhole : Type 0
 GoodHistoriesAreWhole =
     (i : Input) (h : History) → AreOfFlows i.packets → Good i h → IsWhole i h
 
--- Where bytes say what was to be done, the report of each good history of it has the headline of a
--- run with threads. The numbers of the history, and the texts of the taps, are such as a program
--- holds.
-abbrev pub GoodReportsHaveTheHeadline : Type 0
-GoodReportsHaveTheHeadline =
+-- Where bytes say what was to be done, the report of each good history of it whose lists are those
+-- of a run has the headline of a run with threads. The numbers of the history, and the texts of the
+-- taps, are such as a program holds.
+abbrev pub RunReportsHaveTheHeadline : Type 0
+RunReportsHaveTheHeadline =
     (plan_bytes capture_bytes : List ℕ) (capture : Capture) (i : Input) (h : History)
     (taps : List (List ℕ))
     → Says plan_bytes capture_bytes capture i → length i.packets ≤ MAX_PACKETS → Good i h
-    → HistoryFits h → TextsFit taps
+    → IsByRun i h → HistoryFits h → TextsFit taps
     → LiveHeadline plan_bytes capture_bytes capture (report i.packets (length i.plan.apps) h taps)

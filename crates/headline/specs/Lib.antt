@@ -11,4 +11,5 @@ pub mod ListOrders
 pub mod ByRun
 pub mod Live
 pub mod Forged
+pub mod ForgedRuns
 pub mod Laws

@@ -1,5 +1,5 @@
 -- What one order of a hop shows in its lists, without its moments.
-use Rattle.std.specs.Prelude.{ℕ, ◌≡◌, ◌+◌, ◌<◌, ◌≤◌}
+use Rattle.std.specs.Prelude.{ℕ, ◌+◌, ◌<◌, ◌≤◌}
 use Rattle.steer_base.specs.declared.put.LaneDrop.{LaneDrop}
 use Rattle.headline.specs.HopOrders.{AcceptedAs, DeliveredAs, DroppedAs, HopLists, HopOrder}
 use Rattle.headline.specs.HopOrders.{SawHead}

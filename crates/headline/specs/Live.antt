@@ -5,6 +5,7 @@ use Rattle.history.specs.declared.history.History.{History}
 use Rattle.pcap_reader.specs.declared.capture.Capture.{Capture}
 use Rattle.steer_model.specs.Good.GoodHistory.{Good}
 use Rattle.steer_model.specs.Good.Inputs.{Input}
+use Rattle.headline.specs.ByRun.{IsByRun}
 use Rattle.headline.specs.Headline.{IsRight, Reports, Says}
 use Rattle.headline.specs.Orders.{AreAllInOrder}
 
@@ -17,8 +18,8 @@ pub record IsWhole (i : Input) (h : History) : Type 0 where
   pub port : (q x : ℕ) → x < length i.packets → AreAllInOrder i.packets h q x h.port
 
 -- The text that was written is the report of just one history. That history meets the eleven
--- clauses of a good history of the plan and of the packets of the capture, it is as it should be,
--- and all is done in it.
+-- clauses of a good history of the plan and of the packets of the capture, its lists are those of
+-- one order at each hop, it is as it should be, and all is done in it.
 pub record LiveHeadline (plan_bytes capture_bytes : List ℕ) (capture : Capture) (text : List ℕ)
     : Type 0 where
   pub input : Input
@@ -28,5 +29,6 @@ pub record LiveHeadline (plan_bytes capture_bytes : List ℕ) (capture : Capture
   pub only : (i : Input) (h : History) → Says plan_bytes capture_bytes capture i
       → Reports i h text → h ≡ history
   pub good : Good input history
+  pub by_run : IsByRun input history
   pub right : IsRight input history
   pub whole : IsWhole input history

@@ -6,10 +6,16 @@ ghost use Rattle.headline.specs.Forged.{AnotherDropIsForged, AnotherQueueIsForge
 ghost use Rattle.headline.specs.Forged.{AnotherWriteIsForged, EmptyIsForged, ExamplesAreWithin};
 ghost use Rattle.headline.specs.Forged.{HeadlinesAreOfTheRun, MovingAtOnceIsForged};
 ghost use Rattle.headline.specs.Forged.{NeverMovingIsForged, NoWantIsForged};
+ghost use Rattle.headline.specs.ForgedRuns.{CircleOfQueuesIsForged, FutureHeadIsForged};
+ghost use Rattle.headline.specs.ForgedRuns.{FutureTransmitHeadIsForged, OverfullBacklogIsForged};
+ghost use Rattle.headline.specs.ForgedRuns.{StaleDropIsForged, StalerDropIsForged};
+ghost use Rattle.headline.specs.ForgedRuns.{SwappedInboxIsForged, SwappedPortIsForged};
+ghost use Rattle.headline.specs.ForgedRuns.{SwappedPutsAreForged, UnpulledHeadIsForged};
 ghost use Rattle.headline.specs.Laws.{GoodHistoriesAreRight, GoodHistoriesAreWhole};
-ghost use Rattle.headline.specs.Laws.{GoodReportsHaveTheHeadline};
+ghost use Rattle.headline.specs.Laws.{RunReportsHaveTheHeadline};
 ghost use Rattle.headline.specs.Laws.{ReplaysAreOfTheirRuns, ReplaysAreRight};
 ghost use Rattle.headline.specs.Laws.{ReportsHaveTheHeadline};
+ghost use Rattle.headline.specs.ListOrders.{OrdersShowInLists};
 
 use report::a_report_has_one_history;
 use steer_invariant::every_replay_can_be_reported;
@@ -101,10 +107,36 @@ pub fn good_histories_are_right()
     ensures whole { GoodHistoriesAreWhole }
 {}
 
-/// Lemma: the report of a good history of these bytes is that of just one history, and all that is
-/// promised of a run with threads holds of it.
-pub fn a_good_report_has_the_headline()
-    ensures { GoodReportsHaveTheHeadline }
+/// Lemma: where all that was done at a hop was done in one order, its lists show it. What one
+/// producer put to one lane is there in the order of its choices, accepted and dropped. An out list
+/// keeps the order of each lane. A head that a choice saw fits what its producer put before and
+/// after it, and the packets that it counts are delivered before those that are put later.
+pub fn an_order_shows_in_its_lists()
+    ensures { OrdersShowInLists }
+{}
+
+/// Lemma: forged reports of runs are refused, each for what it shows and whatever else is in it: a
+/// head beyond a later put, on the way in or out; puts of one queue in another order than its
+/// choices; an inbox, or the port, in another order than its lane; drops whose counts are below an
+/// earlier put; a drop that counts fewer pulled packets than a head; a backlog that accepts when it
+/// is full; and two queues each behind the other.
+pub fn forged_runs_are_no_runs()
+    ensures future_head { FutureHeadIsForged }
+    ensures swapped_puts { SwappedPutsAreForged }
+    ensures swapped_inbox { SwappedInboxIsForged }
+    ensures swapped_port { SwappedPortIsForged }
+    ensures stale_drop { StaleDropIsForged }
+    ensures staler_drop { StalerDropIsForged }
+    ensures unpulled_head { UnpulledHeadIsForged }
+    ensures future_transmit_head { FutureTransmitHeadIsForged }
+    ensures overfull_backlog { OverfullBacklogIsForged }
+    ensures circle_of_queues { CircleOfQueuesIsForged }
+{}
+
+/// Lemma: the report of a good history of these bytes whose lists are those of a run is that of
+/// just one history, and all that is promised of a run with threads holds of it.
+pub fn a_run_report_has_the_headline()
+    ensures { RunReportsHaveTheHeadline }
 {
     good_histories_are_right();
     a_report_has_one_history();

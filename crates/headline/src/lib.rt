@@ -6,7 +6,8 @@
 mod laws;
 
 pub use laws::{
-    a_good_report_has_the_headline, a_headline_is_of_the_run, a_report_has_the_headline,
-    every_replay_is_of_its_run, every_replay_is_right, forged_histories_are_not_of_the_run,
-    good_histories_are_right, the_events_of_steps_do_the_steps,
+    a_headline_is_of_the_run, a_report_has_the_headline, a_run_report_has_the_headline,
+    an_order_shows_in_its_lists, every_replay_is_of_its_run, every_replay_is_right,
+    forged_histories_are_not_of_the_run, forged_runs_are_no_runs, good_histories_are_right,
+    the_events_of_steps_do_the_steps,
 };

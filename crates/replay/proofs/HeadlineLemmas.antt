@@ -1,7 +1,7 @@
 -- The report of bytes has the headline.
 use Rattle.std.proofs.Common.{ℕ, ◌≡◌, List, Option, length, refl, ◌∙◌, sym, subst}
 use Rattle.headline.specs.Headline.{Headline, Says}
-use Rattle.headline.specs.Laws.{GoodReportsHaveTheHeadline, ReportsHaveTheHeadline}
+use Rattle.headline.specs.Laws.{RunReportsHaveTheHeadline, ReportsHaveTheHeadline}
 use Rattle.headline.specs.Live.{LiveHeadline}
 use Rattle.history.specs.Lines.{lines_of}
 use Rattle.history.specs.Ranges.{HistoryFits}
@@ -66,7 +66,7 @@ pub shown-report : (plan : Plan) (packets : List Packet) (taps : List Meaning) (
 unfolding shown_text
 shown-report plan packets taps h = refl
 
-pub run_has_headline : GoodReportsHaveTheHeadline → EveryRunHasTheHeadline
+pub run_has_headline : RunReportsHaveTheHeadline → EveryRunHasTheHeadline
 run_has_headline headline plan_bytes capture_bytes capture taps text r =
     let i : Input = record { plan = r.plan; packets = r.packets; cut = capture.cut } in
     let says : Says plan_bytes capture_bytes capture i =
@@ -75,4 +75,4 @@ run_has_headline headline plan_bytes capture_bytes capture taps text r =
     (sym (r.is ∙ shown-report r.plan r.packets taps r.history))
     (headline plan_bytes capture_bytes capture i r.history
     (texts_of taps r.plan.detach (lines_of r.packets (length r.plan.apps) r.history).packets) says
-    r.few r.good r.fits.numbers r.fits.texts)
+    r.few r.good r.by_run r.fits.numbers r.fits.texts)

@@ -13,7 +13,7 @@ EveryReportHasTheHeadline =
     → IsReportOfPlan plan_bytes capture_bytes capture taps text
     → Headline plan_bytes capture_bytes capture text
 
--- Every report of a good history of these bytes has the headline of a run with threads.
+-- Every report of a history of a run on these bytes has the headline of a run with threads.
 abbrev pub EveryRunHasTheHeadline : Type 0
 EveryRunHasTheHeadline =
     (plan_bytes capture_bytes : List ℕ) (capture : Capture) (taps : List Meaning) (text : List ℕ)

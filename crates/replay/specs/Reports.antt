@@ -2,6 +2,7 @@
 use Rattle.std.specs.Prelude.{◌≡◌, ◌≤◌, ℕ, List, Ok, length}
 use Rattle.steer_base.specs.declared.limits.TheConstants.{MAX_PACKETS}
 use Rattle.steer_base.specs.declared.packet.Packet.{Packet}
+use Rattle.headline.specs.ByRun.{IsByRun}
 use Rattle.history.specs.declared.history.History.{History}
 use Rattle.pcap_reader.specs.declared.capture.Capture.{Capture}
 use Rattle.plan_reader.specs.PlanTexts.{plan_of, settings_of}
@@ -35,8 +36,8 @@ pub record IsReportOfPlan (plan_bytes capture_bytes : List ℕ) (capture : Captu
   pub is : text ≡ shown_text (replay_of plan packets capture.cut taps)
   pub fits : IsWithinTypes plan (replay_of plan packets capture.cut taps)
 
--- A text is the report of a history that is good for the plan and the packets of the capture, with
--- the texts of the taps.
+-- A text is the report of a history that is good for the plan and the packets of the capture and
+-- whose lists are those of a run, with the texts of the taps.
 pub record IsReportOfRun (plan_bytes capture_bytes : List ℕ) (capture : Capture)
     (taps : List Meaning)
     (text : List ℕ) : Type 0 where
@@ -47,5 +48,6 @@ pub record IsReportOfRun (plan_bytes capture_bytes : List ℕ) (capture : Captur
   pub few : length packets ≤ MAX_PACKETS
   pub history : History
   pub good : Good (record { plan = plan; packets = packets; cut = capture.cut }) history
+  pub by_run : IsByRun (record { plan = plan; packets = packets; cut = capture.cut }) history
   pub is : text ≡ shown_text (shown_with plan packets taps history)
   pub fits : IsWithinTypes plan (shown_with plan packets taps history)

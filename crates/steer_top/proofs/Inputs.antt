@@ -2,6 +2,7 @@
 use Rattle.std.proofs.Common.{◌≡◌, ℕ, List, Option, Some, Result, Ok, Err, IfOk, ap, ◌∙◌, [], ◌∷◌}
 use Rattle.std.proofs.Common.{subst}
 use Rattle.std.specs.Io.KnownBytes.{Keeps}
+use Rattle.headline.specs.ByRun.{IsByRun}
 use Rattle.history.specs.declared.history.History.{History}
 use Rattle.plan_reader.specs.PlanTexts.{settings_of}
 use Rattle.plan_reader.specs.declared.plan.Plan.{Plan}
@@ -12,7 +13,7 @@ use Rattle.steer_base.specs.declared.packet.Packet.{Packet}
 use Rattle.steer_model.specs.Good.GoodHistory.{Good}
 use Rattle.steer_model.specs.State.Start.{replayed}
 use Rattle.steer_top.specs.Files.{Accepted, Files}
-use Rattle.steer_top.specs.Runs.{IsGoodFor, IsRunOf}
+use Rattle.steer_top.specs.Runs.{IsByRunFor, IsGoodFor, IsRunOf}
 use Rattle.steer_top.specs.Taken.{IsInputOf}
 use Rattle.steer_top.specs.Words.{PlanWords}
 use Rattle.steer_top.specs.declared.ending.Role.TheVariants as role
@@ -30,12 +31,12 @@ replay_is plan packets cut taps history shown played is =
 -- what is shown of a history of a run is a run of the input
 pub run_is : {E : Type 0} (input : Input) (taps : List Meaning) (history : History)
     (result : Result ShownLists E)
-    → IsGoodFor input history → IfOk result (λ shown. shown
+    → IsGoodFor input history → IsByRunFor input history → IfOk result (λ shown. shown
     ≡ shown_with input.plan input.captured.packets.items taps history)
     → IfOk result (IsWithinTypes input.plan) → IfOk result (IsRunOf input taps)
-run_is input taps history (Ok shown) good is fits =
-    record { history = history; good = good; is = is; fits = fits }
-run_is input taps history (Err e) good is fits = tt
+run_is input taps history (Ok shown) good by_run is fits =
+    record { history = history; good = good; by_run = by_run; is = is; fits = fits }
+run_is input taps history (Err e) good by_run is fits = tt
 
 module _ (words : PlanWords) (held : List ℕ → Option (List ℕ)) (input : Input)
     (taken : IsInputOf words held input) where
@@ -91,6 +92,10 @@ module _ (words : PlanWords) (held : List ℕ → Option (List ℕ)) (input : In
         good = subst
             (λ cut. Good (record { plan = input.plan; packets = packets; cut = cut }) run.history)
             taken.packets.cut run.good;
+        by_run = subst
+            (λ cut. IsByRun (record { plan = input.plan; packets = packets; cut = cut })
+            run.history)
+            taken.packets.cut run.by_run;
         is = ap shown_text run.is;
         fits = subst (IsWithinTypes input.plan) run.is run.fits;
       }

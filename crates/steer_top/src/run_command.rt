@@ -6,7 +6,7 @@ ghost use Rattle.steer_base.specs.declared.limits.TheConstants.{MAX_PACKETS};
 ghost use Rattle.steer_top.specs.Calls.{course};
 ghost use Rattle.steer_top.specs.Commands.{plan_words_of};
 ghost use Rattle.steer_top.specs.Endings.{EndsCommand};
-ghost use Rattle.steer_top.specs.Runs.{IsGoodFor, IsRunOf};
+ghost use Rattle.steer_top.specs.Runs.{IsByRunFor, IsGoodFor, IsRunOf};
 ghost use Rattle.steer_top.specs.Words.CommandWords.{Run};
 
 use crate::command::PlanCommand;
@@ -16,6 +16,7 @@ use crate::report_text::write_report;
 use history::History;
 use outside_io::{Desk, Sink};
 use replay::Shown;
+use run_promise::a_run_is_by_its_threads;
 use run_words::Pace;
 use std::alloc::Global;
 use std::sync::Wait;
@@ -44,6 +45,7 @@ pub fn run_file<R: Threads + Wait + Sync, D: Desk, K: Sink, P: Pace + Sync>(
     ensures desk_later { D.faults desk.old ≤ D.faults desk.new }
     ensures out_later { K.faults out.old ≤ K.faults out.new }
 {
+    a_run_is_by_its_threads();
     let input = match take_input(alloc, command, desk) {
         Ok(input) => input,
         Err(ending) => return ending,
@@ -68,6 +70,7 @@ fn shown_of<'a>(
 ) -> Result<Shown<'a>, OutOfMemory>
     requires few { length input.now.captured.packets.items ≤ MAX_PACKETS }
     requires good { IsGoodFor input.now history.now }
+    requires by_run { IsByRunFor input.now history.now }
     ensures { IfOk result (IsRunOf input.now (map (λ tap lines. text tap lines) taps.items)) }
 {
     let packets = input.captured.packets.as_slice();

@@ -93,7 +93,7 @@ module _ (i : Input) (h : History) (run : IsRun i h) where
       stand.outs-stand run.rx rx_own run.rx_lists rx-facts run.queues
       run.received.queues.turns rx-turns rx-once h.choices run.received.queues.choices
 
-  tx-turns : AreTurnsOf tx_own run.applications
+  pub tx-turns : AreTurnsOf tx_own run.applications
   tx-turns =
       transmits.turns i h run.rx rx_own run.rx_lists rx-facts run.received.board.inboxes
       inboxes-stand
@@ -150,7 +150,7 @@ module _ (i : Input) (h : History) (run : IsRun i h) where
 
   -- ---- 6: drops
 
-  own-hash : (q k l id : ℕ) (hash : Option ℕ) (answer : Put)
+  pub own-hash : (q k l id : ℕ) (hash : Option ℕ) (answer : Put)
       → Has (rx_own q) k (put_step l id hash answer) → hash ≡ packet_hash (setup_in i) id
   own-hash q k l id hash answer does =
       let u = turn_of rx_own run.queues rx-turns q k l id hash answer does in

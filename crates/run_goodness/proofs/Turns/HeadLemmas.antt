@@ -154,31 +154,31 @@ module _ (about : BoardSizes) (own : ℕ → List BoardStep) (lists : BoardLists
     → slice_get (t.choices p) k ≡ Some u.chosen)
     (by_rule : (k : ℕ) (u : Turn) → nth_step (turns_of t p) k ≡ Some u
     → IsByRule about own (accepted_left lists) t r p k u) where
-  abbrev q : ℕ
+  abbrev pub q : ℕ
   q = t.seat p
 
   abbrev cs : List Chosen
   cs = t.choices p
 
-  places : Places (own q) (t.turns q)
+  abbrev pub places : Places (own q) (t.turns q)
   places = turns_have_places (own q) (t.turns q) explained
 
-  abbrev at : ℕ → ℕ
+  abbrev pub at : ℕ → ℕ
   at k = moment_of p (t.turns q) k
 
   -- the load of the head that choice k saw
-  record Load (k head lane : ℕ) : Type 0 where
-    word : ℕ
-    step : ℕ
-    does : Has (own q) step (Weighed lane word)
-    shows : word % 2 ^ 32 ≡ head
-    after : places.entered (at k) < step
-    before : step < places.put (at k)
+  pub record Load (k head lane : ℕ) : Type 0 where
+    pub word : ℕ
+    pub step : ℕ
+    pub does : Has (own q) step (Weighed lane word)
+    pub shows : word % 2 ^ 32 ≡ head
+    pub after : places.entered (at k) < step
+    pub before : step < places.put (at k)
 
   inside : (k : ℕ) (u : Turn) → nth_step (turns_of t p) k ≡ Some u → at k < length (t.turns q)
   inside k u is = step-inside (t.turns q) (at k) p u (at_moment p (t.turns q) k u is)
 
-  load : (k head lane : ℕ) → k < length cs → (chosen_at cs k).choice.head ≡ Some head
+  pub load : (k head lane : ℕ) → k < length cs → (chosen_at cs k).choice.head ≡ Some head
       → lane_seen cs k ≡ Some lane → Load k head lane
   load k head lane less has_head seen =
       let u = nth-some (turns_of t p) k (omega arith) in
@@ -214,7 +214,7 @@ module _ (about : BoardSizes) (own : ℕ → List BoardStep) (lists : BoardLists
         before = e.2;
       }
 
-  counted : (k head lane : ℕ) (x : Load k head lane)
+  pub counted : (k head lane : ℕ) (x : Load k head lane)
       → (distance head about.start ≡ x.word - about.start)
       × (x.word ≤ about.start + (lane_at lists.lanes lane).retired) × (about.start ≤ x.word)
   counted k head lane x =

@@ -1,5 +1,5 @@
 use Rattle.headline.proofs.LiveReports.{live-headline-of}
-use Rattle.headline.proofs.laws.a_good_report_has_the_headline.Goals as goal
+use Rattle.headline.proofs.laws.a_run_report_has_the_headline.Goals as goal
 
 pub returns : goal.returns
 returns c =

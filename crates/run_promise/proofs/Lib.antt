@@ -1,0 +1,4 @@
+mod RoomLemmas
+pub mod BoardOrderLemmas
+mod HopLemmas
+mod RunLemmas

@@ -1,0 +1,2 @@
+pub mod BoardOrders
+pub mod Laws
