@@ -55,3 +55,15 @@ returns-in_default-clause-ends g c =
           taken.packets.whole,
       Keeps-refl (g.K.Sink.written c.args.out.now),
     )
+
+pub shown_of-requires-clause-by_run : goal.shown_of-requires-clause-by_run
+shown_of-requires-clause-by_run g c =
+    let input = c.in-Ok.input in
+    c.a_run_is_by_its_threads.ensures
+    (record {
+      plan = input.plan;
+      packets = input.captured.packets.items;
+      cut = input.captured.cut;
+    })
+    c.in-Ok-run_threads.history
+    (rw c.as_slice-packets.ensures.value at c.in-Ok-run_threads.ensures.run)
