@@ -19,7 +19,7 @@ pub use hint_word::{
 pub use laws::{
     coded_values_read_back, first_values_stand, only_coded_values_are_read, words_lie_apart,
 };
-pub use pace::Pace;
+pub use pace::{Extent, Pace};
 pub use seats::Seats;
 pub use setting::{ReceiveSetting, TransmitSetting};
 pub use shared::Shared;

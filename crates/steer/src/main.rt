@@ -2,8 +2,10 @@
 //! chapter describes it, or runs it through with threads, and reports what happened to each packet.
 #![tactic(auto)]
 
+mod spread;
+
 use outside_io::{BufferedSink, Desk, FileDesk, Sink, StdSink};
-use run_words::Pace;
+use spread::Spread;
 use std::alloc::Global;
 use std::process::ExitCode;
 use std::sync::Wait;
@@ -17,13 +19,6 @@ const OUT_OF_MEMORY: u8 = 7;
 
 /// The bytes of text that are buffered before they go to standard output.
 const GATHERED: usize = 65_536;
-
-// The pace of a run: each thread goes on at once.
-struct Idle;
-
-impl Pace for Idle {
-    fn turn(&self, _worker: u32, _n: u64) {}
-}
 
 // The words after the program's name.
 fn words_of(rt: &HostRuntime) -> io::Result<Vec<String>> {
@@ -48,7 +43,7 @@ fn call<R: Threads + Wait + Sync, D: Desk, K: Sink, E: Sink>(
         let tap: Box<dyn Tap> = Box::new(alloc, tap)?;
         taps.push(tap)?;
     }
-    Ok(steer(rt, alloc, words, desk, out, err, taps, &Idle))
+    Ok(steer(rt, alloc, words, desk, out, err, taps, &Spread::make(rt)))
 }
 
 fn main(rt: HostRuntime) -> ExitCode {

@@ -19,7 +19,7 @@ use history::History;
 use plan_reader::Plan;
 use run_crew::ended_runs_are_runs;
 use run_goodness::a_run_is_good;
-use run_words::Pace;
+use run_words::{Extent, Pace};
 use std::alloc::Global;
 use std::sync::Wait;
 use std::thread::Threads;
@@ -32,8 +32,8 @@ use steer_base::{OutOfMemory, Packet};
 ///
 /// `pace` is called by worker w with number w before each of its turns, by the wire with the number
 /// of workers before each arrival, and by the controller with that number plus 1 before each try of
-/// a command and once behind the last; with how often it was called, counted from 1. It decides
-/// nothing.
+/// a command and once behind the last; with how often it was called, counted from 1. Before all of
+/// these it is told the extent of the run. It decides nothing.
 ///
 /// Allocates all memory before the threads start; the only error is out of memory.
 pub fn run_threads<R: Threads + Wait + Sync, P: Pace + Sync>(
@@ -62,7 +62,18 @@ pub fn run_threads<R: Threads + Wait + Sync, P: Pace + Sync>(
     let spare = Spare::make(alloc, plan)?;
     let posts = Posts::make(alloc, plan.workers)?;
     let run = Run::make(alloc, plan, packets, cut)?;
+    announce(plan, packets, pace);
     Ok(run_to_the_end(rt, plan, run, posts, spare, pace))
+}
+
+// Tells the pace the extent of a run.
+fn announce<P: Pace>(plan: &Plan, packets: &[Packet], pace: &P) {
+    pace.begins(Extent {
+        workers: plan.workers,
+        packets: packets.len(),
+        queues: plan.queues.len(),
+        commands: plan.commands().len(),
+    });
 }
 
 // Runs what a run begins with to its end.
