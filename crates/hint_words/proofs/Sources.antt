@@ -95,8 +95,8 @@ sources (e ∷ es) lawful p = let rest = All-weaker (HasSource es) (HasSource (e
     (λ _. rest)
 
 -- a step of the seat q stands among its steps
-pub among_own : (order : List (StepBy HintStep)) (q : ℕ) (d : HintStep) → Contains order (step_by q d)
-    → Contains (steps_of q order) d
+pub among_own : (order : List (StepBy HintStep)) (q : ℕ) (d : HintStep)
+    → Contains order (step_by q d) → Contains (steps_of q order) d
 among_own [] q d c = let l = c.1 in absurd (omega arith)
 among_own (e ∷ es) q d (zero, l, is) = by_test e.by q (e.step ∷ steps_of q es) (steps_of q es)
     (λ (ds : List HintStep). Contains ds d)
