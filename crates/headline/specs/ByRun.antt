@@ -1,12 +1,14 @@
 -- What the threads of a run leave in a history beyond the eleven clauses: at each of the two hops
 -- all was done in one order.
-use Rattle.std.specs.Prelude.{ℕ, ◌≡◌, ◌+◌, ◌-◌, ◌≤◌, List, None, map, take}
-use Rattle.history.specs.Lists.{lane_at, packet_at}
+use Rattle.std.specs.Prelude.{ℕ, ◌≡◌, ◌+◌, ◌-◌, ◌<◌, ◌≤◌, List, None, length, map, take}
+use Rattle.history.specs.Lists.{lane_at, list_at, packet_at}
 use Rattle.history.specs.declared.history.History.{History}
 use Rattle.history.specs.declared.lane_list.LaneList.{LaneList}
 use Rattle.steer_base.specs.Drops.{bucket_of, drop_cause, offers_of}
 use Rattle.steer_base.specs.Sets.{has}
-use Rattle.steer_model.specs.Good.Inputs.{Input}
+use Rattle.steer_model.specs.Good.Choices.{AreByRule}
+use Rattle.steer_model.specs.Good.Inputs.{Input, settings_at}
+use Rattle.steer_model.specs.Good.Replies.{IsReplyByRule}
 use Rattle.headline.specs.HopOrders.{AcceptedAs, HopCounts, HopOrder, receive_lists}
 use Rattle.headline.specs.HopOrders.{transmit_lists}
 
@@ -26,13 +28,44 @@ HasNoCause i h now c x =
     (packet_at i.packets x).hash
     ≡ None
 
+-- After the producer's earlier puts and before this one the producer took the settings of its
+-- choice, at a moment at which so many commands had come.
+pub record EntersAt (put given : ℕ → ℕ) (k count : ℕ) : Type 0 where
+  pub entry : ℕ
+  pub after : (j : ℕ) → j < k → put j < entry
+  pub before : entry < put k
+  pub counts : count ≡ given entry
+
+-- Along the order of the way in the settings go forward through the commands, for all queues
+-- together: each choice is by the rule with the settings after as many commands as had come at a
+-- moment between its queue's put before and its own, and this number never falls.
+pub record SettingsGoForward (i : Input) (h : History) (o : HopOrder (receive_lists h))
+    : Type 0 where
+  pub at : ℕ → ℕ → ℕ
+  pub by_rule : AreByRule i h at
+  pub given : ℕ → ℕ
+  pub rise : (m n : ℕ) → m ≤ n → given m ≤ given n
+  pub reads : (q k : ℕ) → k < length (list_at h.choices q) → EntersAt (o.put q) given k (at q k)
+
+-- The same of the maps along the order of the way out, for all applications together.
+pub record MapsGoForward (i : Input) (h : History) (o : HopOrder (transmit_lists h)) : Type 0 where
+  pub at : ℕ → ℕ → ℕ
+  pub by_rule : (a k : ℕ) → k < length (list_at h.tx_choices a)
+      → IsReplyByRule i h a k (settings_at i h (at a k))
+  pub given : ℕ → ℕ
+  pub rise : (m n : ℕ) → m ≤ n → given m ≤ given n
+  pub reads : (a k : ℕ) → k < length (list_at h.tx_choices a)
+      → EntersAt (o.put a) given k (at a k)
+
 -- The lists of a history are those of a run. All that was done on the way in was done in one order:
--- in it no more packets than the backlog ever waited at a processor, and no packet was accepted
--- that had to be dropped. All that was done on the way out was done in one order too. Between the
--- two orders nothing is said.
+-- in it no more packets than the backlog ever waited at a processor, no packet was accepted that
+-- had to be dropped, and the settings go forward. All that was done on the way out was done in one
+-- order too, in which the maps go forward. Between the two orders nothing is said.
 pub record IsByRun (i : Input) (h : History) : Type 0 where
   pub receive : HopOrder (receive_lists h)
   pub room : (m c : ℕ) → (receive.at m).accepted c ≤ (receive.at m).pulled c + i.plan.backlog
   pub due : (q k c n : ℕ) (a : AcceptedAs (receive_lists h) q k c n)
       → HasNoCause i h (receive.at (receive.put q k)) c a.chosen.id
+  pub settings : SettingsGoForward i h receive
   pub transmit : HopOrder (transmit_lists h)
+  pub maps : MapsGoForward i h transmit

@@ -1,7 +1,7 @@
 -- Each lawful order of steps, by the counts at its moments.
-use Rattle.std.proofs.Common.{◌≡◌, ℕ, zero, suc, ◌+◌, ◌-◌, ◌<◌, ◌≤◌, List, [], ◌∷◌, ◌++◌, Option}
-use Rattle.std.proofs.Common.{Some, None, length, drop, take, sym, refl, ap, ◌∙◌, subst, arith}
-use Rattle.std.proofs.Common.{length-append}
+use Rattle.std.proofs.Common.{◌≡◌, ℕ, zero, suc, ◌+◌, ◌-◌, ◌/◌, ◌^◌, ◌<◌, ◌≤◌, List, [], ◌∷◌}
+use Rattle.std.proofs.Common.{◌++◌, Option, Some, None, length, drop, take, sym, refl, ap, ◌∙◌}
+use Rattle.std.proofs.Common.{subst, arith, length-append}
 use Rattle.std.specs.Prelude.{slice_get}
 use Rattle.history.specs.Lists.{lane_at as left_at, list_at}
 use Rattle.history.specs.declared.lane_list.LaneList.{LaneList}
@@ -17,13 +17,16 @@ use Rattle.linearization.proofs.ListLemmas.{if_same}
 use Rattle.hop_rule.specs.Boards.{IsLawful, lane_at, lanes_of, out, retired}
 use Rattle.hop_rule.specs.Deliveries.{delivered_from}
 use Rattle.hop_rule.specs.Fronts.{Front, IsEarlier}
+use Rattle.hop_rule.specs.Gates as gates
 use Rattle.hop_rule.specs.Lanes as lanes
 use Rattle.hop_rule.specs.Moments.{IsStep, past}
 use Rattle.hop_rule.specs.PutLaws.{IsPut, lane_then}
-use Rattle.hop_rule.specs.Sizes.{puller}
+use Rattle.hop_rule.specs.SettingLaws.{closers}
+use Rattle.hop_rule.specs.Sizes.{FitSizes, puller}
 use Rattle.hop_rule.specs.declared.sizes.BoardSizes.{BoardSizes}
 use Rattle.hop_rule.specs.declared.step.BoardStep.{BoardStep}
-use Rattle.hop_rule.specs.declared.step.BoardStep.TheVariants.{Lane, Weighed}
+use Rattle.hop_rule.specs.declared.step.BoardStep.TheVariants.{Gate, Lane, Weighed}
+use Rattle.hop_rule.specs.declared.step.GateStep.TheVariants.{Entered}
 use Rattle.hop_rule.specs.declared.step.LaneStep.{LaneStep}
 use Rattle.hop_rule.specs.declared.step.LaneStep.TheVariants.{Given}
 use Rattle.hop_rule.proofs.Boards.{lanes_past, lawful_past, put_now, retired_later, step_lawful}
@@ -32,6 +35,7 @@ use Rattle.hop_rule.proofs.Drops.{drops_are_explained}
 use Rattle.hop_rule.proofs.Fronts.{front-length, lane_later, out_count_later}
 use Rattle.hop_rule.proofs.Heads.{in_turn, loaded_heads_are_retires}
 use Rattle.hop_rule.proofs.Moments.{past-all, step-more}
+use Rattle.hop_rule.proofs.Openings.{closers_are, openings_later, visits_are_numbered}
 use Rattle.hop_rule.proofs.Puts.{accepted_now, gives_right, place_is}
 use Rattle.board_api.specs.Closings.Finals.{lists_of}
 use Rattle.board_api.specs.Laws.Puts.{WasDropped, WasPut}
@@ -61,7 +65,7 @@ drop-steps zero es n p d is = is
 drop-steps (suc k) [] n p d is = is
 drop-steps (suc k) (e ∷ es) n p d is = step-more e es n p d (drop-steps k es n p d is)
 
-module _ (about : BoardSizes) (order : List (StepBy BoardStep))
+module _ (about : BoardSizes) (order : List (StepBy BoardStep)) (fit : FitSizes about)
     (lawful : IsLawful about order) where
   abbrev lists : BoardLists
   lists = lists_of about order
@@ -268,6 +272,32 @@ module _ (about : BoardSizes) (order : List (StepBy BoardStep))
             };
       }
 
+  -- ---- visits
+
+  -- how often the closer had opened the gate before a moment
+  abbrev pub openings_at : ℕ → ℕ
+  openings_at m = gates.openings (closers about (past m order))
+
+  openings-rise : (m n : ℕ) → m ≤ n → openings_at m ≤ openings_at n
+  openings-rise m n le =
+      let up = openings_later about order lawful m n le in
+      let a = ap gates.openings (closers_are about (past m order)) in
+      let b = ap gates.openings (closers_are about (past n order)) in
+      omega arith
+
+  openings-within : (m : ℕ) → openings_at m ≤ gates.openings (closers about order)
+  openings-within m =
+      let up = openings-rise m (m + length order) (omega arith) in
+      let same = ap (λ (es : List (StepBy BoardStep)). gates.openings (closers about es))
+      (all-past m) in
+      omega arith
+
+  entries : (q k word : ℕ) → Has (own order q) k (Gate (Entered word))
+      → word / 2 ^ 32 ≡ openings_at (when order q k)
+  entries q k word does =
+      (visits_are_numbered about order fit lawful (when order q k) q word
+      (step_is order q k (Gate (Entered word)) does)).0
+
   pub board-order : BoardOrder about (own order) lists
   board-order =
       record {
@@ -285,4 +315,8 @@ module _ (about : BoardSizes) (order : List (StepBy BoardStep))
         due = due;
         loads = loads;
         gives = gives;
+        openings = openings_at;
+        openings_rise = openings-rise;
+        openings_within = openings-within;
+        entries = entries;
       }

@@ -1,6 +1,6 @@
 -- The lists of a hop are those of the order of its board, where each choice has its turn.
-use Rattle.std.proofs.Common.{◌≡◌, ℕ, ◌<◌, List, Option, Some, length, sym, ap}
-use Rattle.std.proofs.Common.{◌∙◌, subst, arith}
+use Rattle.std.proofs.Common.{◌≡◌, ℕ, ◌/◌, ◌^◌, ◌<◌, ◌≤◌, List, Option, Some, length, sym, ap}
+use Rattle.std.proofs.Common.{◌∙◌, subst, arith, length-append}
 use Rattle.std.specs.Prelude.{slice_get}
 use Rattle.linearization.specs.Orders.{step_by}
 use Rattle.history.specs.Lists.{lane_at, list_at}
@@ -9,7 +9,13 @@ use Rattle.steer_base.specs.Counters.{distance}
 use Rattle.steer_base.specs.declared.choice.Chosen.{Chosen}
 use Rattle.steer_base.specs.declared.put.LaneDrop.{LaneDrop}
 use Rattle.steer_base.specs.declared.put.Put.{Put}
+use Rattle.steer_base.specs.declared.command.Command.{Command}
+use Rattle.hop_rule.specs.Boards.{gate_steps}
+use Rattle.hop_rule.specs.Gates.{openings}
 use Rattle.hop_rule.specs.Moments.{moment_of, nth_step}
+use Rattle.hop_rule.specs.Sizes.{closer}
+use Rattle.hop_rule.specs.declared.step.BoardStep.TheVariants.{Gate}
+use Rattle.hop_rule.specs.declared.step.GateStep.TheVariants.{Entered}
 use Rattle.hop_rule.specs.declared.sizes.BoardSizes.{BoardSizes}
 use Rattle.hop_rule.specs.declared.step.BoardStep.{BoardStep}
 use Rattle.hop_rule.specs.declared.step.BoardStep.TheVariants.{Weighed}
@@ -20,17 +26,22 @@ use Rattle.board_api.specs.OwnSteps.{Has, put_step}
 use Rattle.board_api.specs.declared.lists.BoardLists.{BoardLists}
 use Rattle.hop_delivery.specs.Closings.FlowLaw.{accepted_left}
 use Rattle.hop_delivery.specs.Closings.PutPlaces.{AreTurnsOf}
-use Rattle.hop_delivery.specs.Orders.Runs.{Execution, IsByRule, Steering, turns_of}
+use Rattle.hop_delivery.specs.Orders.Commands.{SettingChange}
+use Rattle.hop_delivery.specs.Orders.Runs.{Execution, IsByRule, Steering, turns_of, word_of}
 use Rattle.hop_delivery.specs.Orders.Turns.{Turn}
 use Rattle.hop_delivery.proofs.Closings.PutPlaceLemmas.{turns_put_once}
 use Rattle.hop_delivery.proofs.Orders.TurnLemmas.{Places, turns_have_places}
 use Rattle.steer_model.specs.Good.Choices.{lane_seen}
+use Rattle.run_coupling.specs.Coupling.Tries.{AllSetByAnswer, Try, openings_by, steps_of_tries}
+use Rattle.run_coupling.specs.Coupling.Tries.{tries_up_to}
 use Rattle.run_coupling.specs.Coupling.Turns.{KeepsTurns}
 use Rattle.run_coupling.proofs.Runs.FactLemmas.{BoardFacts}
 use Rattle.run_coupling.proofs.Runs.PutTurnLemmas.{turn-at}
 use Rattle.run_coupling.proofs.Runs.TurnListLemmas.{turn-chosen, turns-counted}
+use Rattle.run_coupling.proofs.Tries.TryLemmas.{openings-makings, tries-grow}
 use Rattle.run_coupling.proofs.Turns.TableEntryLemmas.{nth-moment}
 use Rattle.run_goodness.proofs.Turns.HeadLemmas as heads
+use Rattle.headline.specs.ByRun.{EntersAt}
 use Rattle.headline.specs.HopOrders.{AcceptedAs, AcceptsAt, AreWithin, DeliveredAs, DeliversAt}
 use Rattle.headline.specs.HopOrders.{DroppedAs, DropsAt, HopLists, HopOrder, SawHead, SeesAt}
 use Rattle.run_promise.specs.BoardOrders.{BoardOrder}
@@ -90,6 +101,53 @@ module _ (about : BoardSizes) (own : ℕ → List BoardStep) (lists : BoardLists
       board.in_turn (t.seat p) (put-number p j) (put-number p k)
       (put_step u.0.chosen.choice.lane u.0.chosen.id u.0.hash u.0.answer) (omega arith)
       (puts p k u.0 u.1)
+
+  -- ---- the settings of turns
+
+  module _ (tries : List Try) (at : Try → List BoardStep)
+      (sets : (ℕ → ℕ) → Command → List SettingChange)
+      (own_list : own (closer about) ≡ steps_of_tries at tries)
+      (are : AllSetByAnswer about sets at tries) where
+    -- how many commands had come at a moment
+    abbrev pub given-at : ℕ → ℕ
+    given-at m = length (tries_up_to at (board.openings m) tries)
+
+    pub given-rise : (m n : ℕ) → m ≤ n → given-at m ≤ given-at n
+    given-rise m n le =
+        let most = board.openings_within n in
+        let is : openings (gate_steps (own (closer about))) ≡ openings_by at tries =
+        ap (λ ds. openings (gate_steps ds)) own_list
+        ∙ openings-makings (gate_steps (steps_of_tries at tries)) in
+        let up = board.openings_rise m n le in
+        let g = tries-grow about sets at (board.openings m) (board.openings n) tries are up
+        (omega arith) in
+        let a = ap length g.1 in
+        let b = length-append g.0 (tries_up_to at (board.openings m) tries) in
+        omega arith
+
+    pub enters : (p k : ℕ) → k < length (t.choices p)
+        → EntersAt (put-moment p) given-at k
+        (length (tries_up_to at (word_of (nth_step (turns_of t p) k) / 2 ^ 32) tries))
+    enters p k within =
+        let many = turns-counted own t keeps p in
+        let u = nth-some (turns_of t p) k (omega arith) in
+        let q : ℕ = t.seat p in
+        let entry : ℕ = (places p).entered (turn-number p k) in
+        let v = (places p).visits (turn-number p k) (step_by p u.0)
+        (nth-moment (t.turns q) (turn-number p k) p u.0 (at_moment p (t.turns q) k u.0 u.1)) in
+        record {
+          entry = board.moment q entry;
+          after = λ j less.
+              board.in_turn q (put-number p j) entry (Gate (Entered u.0.word))
+              (before-entry p j k less within) v.enters;
+          before =
+              board.in_turn q entry (put-number p k)
+              (put_step u.0.chosen.choice.lane u.0.chosen.id u.0.hash u.0.answer) v.after
+              (puts p k u.0 u.1);
+          counts =
+              ap (λ n. length (tries_up_to at n tries))
+              (ap (λ o. word_of o / 2 ^ 32) u.1 ∙ board.entries q entry u.0.word v.enters);
+        }
 
   -- a put of the packet of a choice is the choice's own
   own-put : (p k l q n : ℕ) (c : Chosen) (hash : Option ℕ) (answer : Put)

@@ -13,6 +13,7 @@ use Rattle.hop_rule.specs.declared.step.BoardStep.{BoardStep}
 use Rattle.board_api.specs.Closings.Closings.{own_in}
 use Rattle.board_api.proofs.Endings.{at_closings}
 use Rattle.hop_delivery.specs.Closings.FlowLaw.{accepted_left}
+use Rattle.hop_delivery.specs.Orders.Commands.{received_sets, sent_sets}
 use Rattle.hop_delivery.specs.Orders.ReceiveSettings.{receive_steering}
 use Rattle.hop_delivery.specs.Orders.Runs.{IsByRule, turns_of}
 use Rattle.hop_delivery.specs.Orders.TransmitSettings.{transmit_steering}
@@ -21,20 +22,24 @@ use Rattle.steer_model.specs.Good.Inputs.{Input, setup_in}
 use Rattle.steer_model.specs.State.Setup.{flow_number_of, packet_hash}
 use Rattle.run_coupling.specs.Coupling.Inputs.{receive_queues}
 use Rattle.run_coupling.specs.Coupling.Runs.{IsRun}
+use Rattle.run_coupling.specs.Coupling.Tries.{at_receive, at_transmit}
+use Rattle.run_coupling.specs.Laws.Choices.{commands_before}
+use Rattle.run_coupling.specs.Laws.Replies.{commands_before_reply}
 use Rattle.run_goodness.proofs.Runs.ReceiveLemmas as receives
 use Rattle.run_goodness.proofs.Runs.RunLemmas as runs
 use Rattle.run_goodness.proofs.Runs.TransmitLemmas as transmits
-use Rattle.headline.specs.ByRun.{HasNoCause, IsByRun, offered_at}
+use Rattle.headline.specs.ByRun.{HasNoCause, IsByRun, MapsGoForward, SettingsGoForward}
+use Rattle.headline.specs.ByRun.{offered_at}
 use Rattle.headline.specs.HopOrders.{AcceptedAs, HopCounts, HopOrder, receive_lists}
 use Rattle.headline.specs.HopOrders.{transmit_lists}
 use Rattle.run_promise.specs.BoardOrders.{BoardOrder}
 use Rattle.run_promise.specs.Laws.{BoardsAreOrdered, RunsAreByRun}
 use Rattle.run_promise.proofs.BoardOrderLemmas.{board-order}
-use Rattle.run_promise.proofs.HopLemmas.{hop-order, put-is, was-put}
+use Rattle.run_promise.proofs.HopLemmas.{enters, given-at, given-rise, hop-order, put-is, was-put}
 
 pub boards-are-ordered : BoardsAreOrdered
 boards-are-ordered =
-    at_closings BoardOrder (λ about order fit lawful. board-order about order lawful)
+    at_closings BoardOrder (λ about order fit lawful. board-order about order fit lawful)
 
 -- a processor's lane with these limits had no cause to drop a packet
 abbrev CauseIsNone : Input → CpuMask → ℕ → LaneList → HopCounts → (processor packet : ℕ) → Type 0
@@ -118,6 +123,56 @@ module _ (i : Input) (h : History) (run : IsRun i h) where
       run.received.board.inboxes (runs.inboxes-stand i h run) run.tx tx_own run.tx_lists facts
       run.tries run.applications run.maps_seen (runs.within i h run) run.sent).by_rule
 
+  settings : SettingsGoForward i h receive-order
+  settings =
+      let keeps = run.received.queues.turns in
+      let kept = run.received.tries_are in
+      record {
+        at = commands_before run.tries run.queues;
+        by_rule =
+            (receives.choices-by-rule i h run.rx rx_own run.rx_lists (runs.rx-facts i h run)
+            run.tries run.queues run.queues_seen run.input run.commands run.received).by_rule;
+        given =
+            given-at run.rx rx_own run.rx_lists (runs.rx-facts i h run) rx-board run.queues keeps
+            (runs.rx-turns i h run) run.tries at_receive (received_sets (receive_queues i))
+            kept.own_list kept.are;
+        rise =
+            given-rise run.rx rx_own run.rx_lists (runs.rx-facts i h run) rx-board run.queues keeps
+            (runs.rx-turns i h run) run.tries at_receive (received_sets (receive_queues i))
+            kept.own_list kept.are;
+        reads = λ q k less.
+            (let size = ap length (run.received.queues.choices q) in
+            enters run.rx rx_own run.rx_lists (runs.rx-facts i h run) rx-board run.queues keeps
+            (runs.rx-turns i h run) run.tries at_receive (received_sets (receive_queues i))
+            kept.own_list kept.are q k (omega arith));
+      }
+
+  maps : MapsGoForward i h transmit-order
+  maps =
+      let keeps = run.sent.applications.turns in
+      let kept = run.sent.tries_are in
+      record {
+        at = commands_before_reply run.tries run.applications;
+        by_rule =
+            (transmits.by-rule i h run.rx rx_own run.rx_lists (runs.rx-facts i h run)
+            run.received.board.inboxes (runs.inboxes-stand i h run) run.tx tx_own run.tx_lists
+            (runs.tx-facts i h run) run.tries run.applications run.maps_seen
+            (runs.within i h run) run.sent).each;
+        given =
+            given-at run.tx tx_own run.tx_lists (runs.tx-facts i h run) tx-board run.applications
+            keeps (runs.tx-turns i h run) run.tries at_transmit
+            (λ w c. sent_sets (length i.plan.tx) c) kept.own_list kept.are;
+        rise =
+            given-rise run.tx tx_own run.tx_lists (runs.tx-facts i h run) tx-board run.applications
+            keeps (runs.tx-turns i h run) run.tries at_transmit
+            (λ w c. sent_sets (length i.plan.tx) c) kept.own_list kept.are;
+        reads = λ a k less.
+            (let size = ap length (run.sent.applications.choices a) in
+            enters run.tx tx_own run.tx_lists (runs.tx-facts i h run) tx-board run.applications
+            keeps (runs.tx-turns i h run) run.tries at_transmit
+            (λ w c. sent_sets (length i.plan.tx) c) kept.own_list kept.are a k (omega arith));
+      }
+
   by-run : IsByRun i h
   by-run =
       record {
@@ -126,7 +181,9 @@ module _ (i : Input) (h : History) (run : IsRun i h) where
             (let limit = run.received.board.limit in
             let most = rx-board.room m c in omega arith);
         due = due;
+        settings = settings;
         transmit = transmit-order;
+        maps = maps;
       }
 
 pub runs-are-by-run : RunsAreByRun

@@ -1,7 +1,7 @@
 -- The one order of a board's steps, by counts and moments, for the seats' own lists and the lists
 -- that the board leaves.
-use Rattle.std.specs.Prelude.{◌≡◌, ℕ, suc, ◌+◌, ◌-◌, ◌<◌, ◌≤◌, List, Option, Some, None, length}
-use Rattle.std.specs.Prelude.{slice_get, take}
+use Rattle.std.specs.Prelude.{◌≡◌, ℕ, suc, ◌+◌, ◌-◌, ◌/◌, ◌^◌, ◌<◌, ◌≤◌, List, Option, Some, None}
+use Rattle.std.specs.Prelude.{length, slice_get, take}
 use Rattle.history.specs.Lists.{lane_at, list_at}
 use Rattle.history.specs.declared.lane_list.LaneList.{LaneList}
 use Rattle.steer_base.specs.Drops.{drop_cause, offers_of}
@@ -9,9 +9,13 @@ use Rattle.steer_base.specs.Sets.{has}
 use Rattle.steer_base.specs.declared.put.LaneDrop.{LaneDrop}
 use Rattle.steer_base.specs.declared.put.Put.{Put}
 use Rattle.backlog.specs.Offers.{buckets_of}
+use Rattle.hop_rule.specs.Boards.{gate_steps}
+use Rattle.hop_rule.specs.Gates as gates
+use Rattle.hop_rule.specs.Sizes.{closer}
 use Rattle.hop_rule.specs.declared.sizes.BoardSizes.{BoardSizes}
 use Rattle.hop_rule.specs.declared.step.BoardStep.{BoardStep}
-use Rattle.hop_rule.specs.declared.step.BoardStep.TheVariants.{Lane, Weighed}
+use Rattle.hop_rule.specs.declared.step.BoardStep.TheVariants.{Gate, Lane, Weighed}
+use Rattle.hop_rule.specs.declared.step.GateStep.TheVariants.{Entered}
 use Rattle.hop_rule.specs.declared.step.LaneStep.TheVariants.{Given}
 use Rattle.board_api.specs.Laws.Puts.{WasDropped, WasPut}
 use Rattle.board_api.specs.OwnSteps.{Has, put_step}
@@ -43,7 +47,8 @@ LaneHasNoCause about hash_of l lane now id =
     ≡ None
 
 -- Each own step has its moment, in the order of its seat's list, and the counts at each moment are
--- those of the board then: each put, each load of a head and each delivery is as they say.
+-- those of the board then: each put, each load of a head and each delivery is as they say. The
+-- number of a visit is that of the closer's openings before its entry.
 pub record BoardOrder (about : BoardSizes) (own : ℕ → List BoardStep) (lists : BoardLists)
     : Type 0 where
   pub at : ℕ → HopCounts
@@ -69,3 +74,8 @@ pub record BoardOrder (about : BoardSizes) (own : ℕ → List BoardStep) (lists
       → word ≡ about.start + (at (moment q k)).retired l
   pub gives : (q k out from id place : ℕ) → Has (own q) k (Lane (Given out from id (suc place)))
       → GivesAt lists at from out id place
+  pub openings : ℕ → ℕ
+  pub openings_rise : (m n : ℕ) → m ≤ n → openings m ≤ openings n
+  pub openings_within : (m : ℕ) → openings m ≤ gates.openings (gate_steps (own (closer about)))
+  pub entries : (q k word : ℕ) → Has (own q) k (Gate (Entered word))
+      → word / 2 ^ 32 ≡ openings (moment q k)
