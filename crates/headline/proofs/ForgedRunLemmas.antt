@@ -5,7 +5,8 @@ use Rattle.std.proofs.lemmas.Option.{slice_get_within}
 use Rattle.history.specs.Lists.{list_at}
 use Rattle.headline.specs.ForgedRuns.{CircleOfQueuesIsForged, FutureHeadIsForged}
 use Rattle.headline.specs.ForgedRuns.{FutureTransmitHeadIsForged, OverfullBacklogIsForged}
-use Rattle.headline.specs.ForgedRuns.{StaleDropIsForged, StalerDropIsForged, SwappedInboxIsForged}
+use Rattle.headline.specs.ForgedRuns.{StaleDropIsForged, StaleSettingsAreForged}
+use Rattle.headline.specs.ForgedRuns.{StalerDropIsForged, SwappedInboxIsForged}
 use Rattle.headline.specs.ForgedRuns.{SwappedPortIsForged, SwappedPutsAreForged}
 use Rattle.headline.specs.ForgedRuns.{UnpulledHeadIsForged}
 use Rattle.headline.specs.HopOrders.{AcceptedAs, HopLists, HopOrder, receive_lists}
@@ -96,4 +97,16 @@ circle-of-queues-forged i h run a b c d =
     (slice_get_within (list_at o.choices 0) 1 b.chosen b.choice) in
     let second = order.in_turn 1 0 1 (omega arith)
     (slice_get_within (list_at o.choices 1) 1 d.chosen d.choice) in
+    absurd (omega arith)
+
+pub stale-settings-forged : StaleSettingsAreForged
+stale-settings-forged i h run a b less =
+    let o = receive_lists h in
+    let order = run.receive in
+    let before = put-before o order 0 1 0 0 1 0 1 (omega arith) a b in
+    let first = run.settings.holds 0 0
+    (slice_get_within (list_at o.choices 0) 0 a.chosen a.choice) in
+    let second = run.settings.holds 1 0
+    (slice_get_within (list_at o.choices 1) 0 b.chosen b.choice) in
+    let up = run.settings.rise (order.put 0 0) (order.put 1 0) (omega arith) in
     absurd (omega arith)

@@ -28,24 +28,16 @@ HasNoCause i h now c x =
     (packet_at i.packets x).hash
     ≡ None
 
--- After the producer's earlier puts and before this one the producer took the settings of its
--- choice, at a moment at which so many commands had come.
-pub record EntersAt (put given : ℕ → ℕ) (k count : ℕ) : Type 0 where
-  pub entry : ℕ
-  pub after : (j : ℕ) → j < k → put j < entry
-  pub before : entry < put k
-  pub counts : count ≡ given entry
-
 -- Along the order of the way in the settings go forward through the commands, for all queues
--- together: each choice is by the rule with the settings after as many commands as had come at a
--- moment between its queue's put before and its own, and this number never falls.
+-- together: each choice is by the rule with the settings after as many commands as had come at the
+-- moment of its put, and this number never falls.
 pub record SettingsGoForward (i : Input) (h : History) (o : HopOrder (receive_lists h))
     : Type 0 where
   pub at : ℕ → ℕ → ℕ
   pub by_rule : AreByRule i h at
   pub given : ℕ → ℕ
   pub rise : (m n : ℕ) → m ≤ n → given m ≤ given n
-  pub reads : (q k : ℕ) → k < length (list_at h.choices q) → EntersAt (o.put q) given k (at q k)
+  pub holds : (q k : ℕ) → k < length (list_at h.choices q) → at q k ≡ given (o.put q k)
 
 -- The same of the maps along the order of the way out, for all applications together.
 pub record MapsGoForward (i : Input) (h : History) (o : HopOrder (transmit_lists h)) : Type 0 where
@@ -54,8 +46,7 @@ pub record MapsGoForward (i : Input) (h : History) (o : HopOrder (transmit_lists
       → IsReplyByRule i h a k (settings_at i h (at a k))
   pub given : ℕ → ℕ
   pub rise : (m n : ℕ) → m ≤ n → given m ≤ given n
-  pub reads : (a k : ℕ) → k < length (list_at h.tx_choices a)
-      → EntersAt (o.put a) given k (at a k)
+  pub holds : (a k : ℕ) → k < length (list_at h.tx_choices a) → at a k ≡ given (o.put a k)
 
 -- The lists of a history are those of a run. All that was done on the way in was done in one order:
 -- in it no more packets than the backlog ever waited at a processor, no packet was accepted that

@@ -1,7 +1,7 @@
 -- Forged reports of runs: what a good history could show that no run leaves. Each is a pattern in
 -- lists, of queue 0 or application 0 where nothing else is said, with packets counted from 0, and
 -- is refused by what it is named for.
-use Rattle.std.specs.Prelude.{◌≡◌}
+use Rattle.std.specs.Prelude.{◌≡◌, ◌<◌}
 use Rattle.history.specs.declared.history.History.{History}
 use Rattle.steer_base.specs.declared.put.LaneDrop.{LaneDrop}
 use Rattle.steer_model.specs.Good.Inputs.{Input}
@@ -79,3 +79,10 @@ CircleOfQueuesIsForged =
     (i : Input) (h : History) → IsByRun i h → AcceptedAs (receive_lists h) 0 0 1 1
     → AcceptedAs (receive_lists h) 0 1 2 0 → AcceptedAs (receive_lists h) 1 0 2 1
     → AcceptedAs (receive_lists h) 1 1 1 0 → ⊥
+
+-- Settings that go back. Queue 1 was behind queue 0 at processor 1 with its choice 0, which is by
+-- the settings after fewer commands than choice 0 of queue 0.
+abbrev pub StaleSettingsAreForged : Type 0
+StaleSettingsAreForged =
+    (i : Input) (h : History) (run : IsByRun i h) → AcceptedAs (receive_lists h) 0 0 1 0
+    → AcceptedAs (receive_lists h) 1 0 1 1 → run.settings.at 1 0 < run.settings.at 0 0 → ⊥

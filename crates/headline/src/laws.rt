@@ -8,7 +8,8 @@ ghost use Rattle.headline.specs.Forged.{HeadlinesAreOfTheRun, MovingAtOnceIsForg
 ghost use Rattle.headline.specs.Forged.{NeverMovingIsForged, NoWantIsForged};
 ghost use Rattle.headline.specs.ForgedRuns.{CircleOfQueuesIsForged, FutureHeadIsForged};
 ghost use Rattle.headline.specs.ForgedRuns.{FutureTransmitHeadIsForged, OverfullBacklogIsForged};
-ghost use Rattle.headline.specs.ForgedRuns.{StaleDropIsForged, StalerDropIsForged};
+ghost use Rattle.headline.specs.ForgedRuns.{StaleDropIsForged, StaleSettingsAreForged};
+ghost use Rattle.headline.specs.ForgedRuns.{StalerDropIsForged};
 ghost use Rattle.headline.specs.ForgedRuns.{SwappedInboxIsForged, SwappedPortIsForged};
 ghost use Rattle.headline.specs.ForgedRuns.{SwappedPutsAreForged, UnpulledHeadIsForged};
 ghost use Rattle.headline.specs.Laws.{GoodHistoriesAreRight, GoodHistoriesAreWhole};
@@ -119,7 +120,7 @@ pub fn an_order_shows_in_its_lists()
 /// head beyond a later put, on the way in or out; puts of one queue in another order than its
 /// choices; an inbox, or the port, in another order than its lane; drops whose counts are below an
 /// earlier put; a drop that counts fewer pulled packets than a head; a backlog that accepts when it
-/// is full; and two queues each behind the other.
+/// is full; two queues each behind the other; and settings that go back.
 pub fn forged_runs_are_no_runs()
     ensures future_head { FutureHeadIsForged }
     ensures swapped_puts { SwappedPutsAreForged }
@@ -131,6 +132,7 @@ pub fn forged_runs_are_no_runs()
     ensures future_transmit_head { FutureTransmitHeadIsForged }
     ensures overfull_backlog { OverfullBacklogIsForged }
     ensures circle_of_queues { CircleOfQueuesIsForged }
+    ensures stale_settings { StaleSettingsAreForged }
 {}
 
 /// Lemma: the report of a good history of these bytes whose lists are those of a run is that of

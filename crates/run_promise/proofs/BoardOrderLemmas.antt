@@ -12,9 +12,9 @@ use Rattle.steer_base.specs.declared.put.LaneDrop.{LaneDrop}
 use Rattle.steer_base.specs.declared.put.Put.{Put}
 use Rattle.backlog.specs.Offers.{buckets_of}
 use Rattle.backlog.specs.Puts.{put_by}
-use Rattle.linearization.specs.Orders.{StepBy, steps_of}
+use Rattle.linearization.specs.Orders.{StepBy, step_by, steps_of}
 use Rattle.linearization.proofs.ListLemmas.{if_same}
-use Rattle.hop_rule.specs.Boards.{IsLawful, lane_at, lanes_of, out, retired}
+use Rattle.hop_rule.specs.Boards.{IsLawful, gates_of, lane_at, lanes_of, out, retired}
 use Rattle.hop_rule.specs.Deliveries.{delivered_from}
 use Rattle.hop_rule.specs.Fronts.{Front, IsEarlier}
 use Rattle.hop_rule.specs.Gates as gates
@@ -22,21 +22,28 @@ use Rattle.hop_rule.specs.Lanes as lanes
 use Rattle.hop_rule.specs.Moments.{IsStep, past}
 use Rattle.hop_rule.specs.PutLaws.{IsPut, lane_then}
 use Rattle.hop_rule.specs.SettingLaws.{closers}
-use Rattle.hop_rule.specs.Sizes.{FitSizes, puller}
+use Rattle.hop_rule.specs.Sizes.{FitSizes, closer, puller}
 use Rattle.hop_rule.specs.declared.sizes.BoardSizes.{BoardSizes}
 use Rattle.hop_rule.specs.declared.step.BoardStep.{BoardStep}
 use Rattle.hop_rule.specs.declared.step.BoardStep.TheVariants.{Gate, Lane, Weighed}
-use Rattle.hop_rule.specs.declared.step.GateStep.TheVariants.{Entered}
+use Rattle.hop_rule.specs.declared.step.GateStep.{GateStep}
+use Rattle.hop_rule.specs.declared.step.GateStep.TheVariants.{Entered, Left, NotShut, Opened}
+use Rattle.hop_rule.specs.declared.step.GateStep.TheVariants.{Read, Set, Shut, Turned}
 use Rattle.hop_rule.specs.declared.step.LaneStep.{LaneStep}
 use Rattle.hop_rule.specs.declared.step.LaneStep.TheVariants.{Given}
-use Rattle.hop_rule.proofs.Boards.{lanes_past, lawful_past, put_now, retired_later, step_lawful}
+use Rattle.hop_rule.proofs.Boards.{gates_past, lanes_past, lawful_past, parts, put_now}
+use Rattle.hop_rule.proofs.Boards.{retired_later, step_lawful}
+use Rattle.hop_rule.proofs.Cases.{gate_part_case}
 use Rattle.hop_rule.proofs.Deliveries.{facts, gone, waiting}
 use Rattle.hop_rule.proofs.Drops.{drops_are_explained}
 use Rattle.hop_rule.proofs.Fronts.{front-length, lane_later, out_count_later}
+use Rattle.hop_rule.proofs.Gates.{closes, unshut}
 use Rattle.hop_rule.proofs.Heads.{in_turn, loaded_heads_are_retires}
-use Rattle.hop_rule.proofs.Moments.{past-all, step-more}
+use Rattle.hop_rule.proofs.Moments.{along, past-all, step-more}
+use Rattle.hop_rule.proofs.Numbers.{none_between}
 use Rattle.hop_rule.proofs.Openings.{closers_are, openings_later, visits_are_numbered}
 use Rattle.hop_rule.proofs.Puts.{accepted_now, gives_right, place_is}
+use Rattle.hop_rule.proofs.Visits.{inside_at}
 use Rattle.board_api.specs.Closings.Finals.{lists_of}
 use Rattle.board_api.specs.Laws.Puts.{WasDropped, WasPut}
 use Rattle.board_api.specs.OwnSteps.{Has, put_step}
@@ -274,29 +281,82 @@ module _ (about : BoardSizes) (order : List (StepBy BoardStep)) (fit : FitSizes 
 
   -- ---- visits
 
-  -- how often the closer had opened the gate before a moment
+  -- how often the gate had been opened before a moment
   abbrev pub openings_at : ℕ → ℕ
-  openings_at m = gates.openings (closers about (past m order))
+  openings_at m = gates.all_openings (gates_of (past m order))
 
   openings-rise : (m n : ℕ) → m ≤ n → openings_at m ≤ openings_at n
   openings-rise m n le =
       let up = openings_later about order lawful m n le in
-      let a = ap gates.openings (closers_are about (past m order)) in
-      let b = ap gates.openings (closers_are about (past n order)) in
+      let a = (closes about (gates_of (past m order)) (gates_past about order m lawful)).1 in
+      let b = (closes about (gates_of (past n order)) (gates_past about order n lawful)).1 in
       omega arith
 
   openings-within : (m : ℕ) → openings_at m ≤ gates.openings (closers about order)
   openings-within m =
       let up = openings-rise m (m + length order) (omega arith) in
-      let same = ap (λ (es : List (StepBy BoardStep)). gates.openings (closers about es))
+      let same = ap (λ (es : List (StepBy BoardStep)). gates.all_openings (gates_of es))
       (all-past m) in
+      let a = (closes about (gates_of order) (parts about order lawful).1).1 in
+      let b = ap gates.openings (closers_are about order) in
       omega arith
 
-  entries : (q k word : ℕ) → Has (own order q) k (Gate (Entered word))
-      → word / 2 ^ 32 ≡ openings_at (when order q k)
-  entries q k word does =
-      (visits_are_numbered about order fit lawful (when order q k) q word
-      (step_is order q k (Gate (Entered word)) does)).0
+  -- while a seat is inside the gate is not opened
+  openings-stay : (q e u word m : ℕ) → q < about.seats → IsStep order e q (Gate (Entered word))
+      → ((k : ℕ) → e < k → k < u → IsStep order k q (Gate Left) → ⊥) → e < m → m ≤ u
+      → openings_at m ≡ openings_at e
+  openings-stay q e u word m seat enters stays less le =
+      along (λ es. gates.all_openings (gates_of es) ≡ openings_at e) order (suc e) m (omega arith)
+      (λ k s from to is here.
+      gate_part_case (λ gs. gates.all_openings gs ≡ openings_at e) s.by s.step
+      (gates_of (past k order))
+      (λ g gate.
+      by_gate k s.by g (is ∙ ap (λ d. step_by s.by d ∷ past k order) gate) from (omega arith) here)
+      here)
+      (ap (λ (es : List (StepBy BoardStep)). gates.all_openings (gates_of es)) enters)
+    where
+      by_gate : (k p : ℕ) (g : GateStep) → IsStep order k p (Gate g) → suc e ≤ k → k ≤ u
+          → openings_at k ≡ openings_at e
+          → gates.openings_after g (openings_at k) ≡ openings_at e
+      by_gate k p Opened is from to here =
+          let may = (step_lawful about order k p (Gate Opened) lawful is).1 in
+          let gs : List (StepBy GateStep) = gates_of (past k order) in
+          let legal = gates_past about order k lawful in
+          let shut : gates.closed (steps_of (closer about) gs) ≡ 1 =
+          ap (λ z. gates.closed (steps_of z gs)) (sym may.0) ∙ may.1 in
+          let all = (closes about gs legal).0 in
+          let open_ = unshut about gs legal q seat
+          (inside_at about order lawful q e u word k enters stays (omega arith) to) in
+          absurd (omega arith)
+      by_gate k p (Entered w) is from to here = here
+      by_gate k p (Turned w) is from to here = here
+      by_gate k p Left is from to here = here
+      by_gate k p (Shut w) is from to here = here
+      by_gate k p (NotShut w) is from to here = here
+      by_gate k p (Set i v) is from to here = here
+      by_gate k p (Read i v) is from to here = here
+
+  visits : (q e u l id word : ℕ) (hash : Option ℕ) (answer : Put) → e < u
+      → Has (own order q) e (Gate (Entered word)) → Has (own order q) u (put_step l id hash answer)
+      → ((k : ℕ) → e < k → k < u → Has (own order q) k (Gate Left) → ⊥)
+      → word / 2 ^ 32 ≡ openings_at (when order q u)
+  visits q e u l id word hash answer less enters puts stays =
+      let d : BoardStep = put_step l id hash answer in
+      let first : ℕ = when order q e in
+      let last : ℕ = when order q u in
+      let up = rise order q e u d less puts in
+      let is = step_is order q e (Gate (Entered word)) enters in
+      let seat = (step_lawful about order first q (Gate (Entered word)) lawful is).0 in
+      let same = openings-stay q first last word last seat is
+      (λ m from to left.
+      none_between about order q e u m (Gate (Entered word)) d (Gate Left) enters puts stays from
+      to left)
+      up (omega arith) in
+      let number = (visits_are_numbered about order fit lawful first q word is).0 in
+      let a = ap gates.openings (closers_are about (past first order)) in
+      let b = (closes about (gates_of (past first order))
+      (gates_past about order first lawful)).1 in
+      omega arith
 
   pub board-order : BoardOrder about (own order) lists
   board-order =
@@ -318,5 +378,5 @@ module _ (about : BoardSizes) (order : List (StepBy BoardStep)) (fit : FitSizes 
         openings = openings_at;
         openings_rise = openings-rise;
         openings_within = openings-within;
-        entries = entries;
+        visits = visits;
       }

@@ -14,8 +14,6 @@ use Rattle.hop_rule.specs.Boards.{gate_steps}
 use Rattle.hop_rule.specs.Gates.{openings}
 use Rattle.hop_rule.specs.Moments.{moment_of, nth_step}
 use Rattle.hop_rule.specs.Sizes.{closer}
-use Rattle.hop_rule.specs.declared.step.BoardStep.TheVariants.{Gate}
-use Rattle.hop_rule.specs.declared.step.GateStep.TheVariants.{Entered}
 use Rattle.hop_rule.specs.declared.sizes.BoardSizes.{BoardSizes}
 use Rattle.hop_rule.specs.declared.step.BoardStep.{BoardStep}
 use Rattle.hop_rule.specs.declared.step.BoardStep.TheVariants.{Weighed}
@@ -41,7 +39,6 @@ use Rattle.run_coupling.proofs.Runs.TurnListLemmas.{turn-chosen, turns-counted}
 use Rattle.run_coupling.proofs.Tries.TryLemmas.{openings-makings, tries-grow}
 use Rattle.run_coupling.proofs.Turns.TableEntryLemmas.{nth-moment}
 use Rattle.run_goodness.proofs.Turns.HeadLemmas as heads
-use Rattle.headline.specs.ByRun.{EntersAt}
 use Rattle.headline.specs.HopOrders.{AcceptedAs, AcceptsAt, AreWithin, DeliveredAs, DeliversAt}
 use Rattle.headline.specs.HopOrders.{DroppedAs, DropsAt, HopLists, HopOrder, SawHead, SeesAt}
 use Rattle.run_promise.specs.BoardOrders.{BoardOrder}
@@ -125,29 +122,21 @@ module _ (about : BoardSizes) (own : ℕ → List BoardStep) (lists : BoardLists
         let b = length-append g.0 (tries_up_to at (board.openings m) tries) in
         omega arith
 
-    pub enters : (p k : ℕ) → k < length (t.choices p)
-        → EntersAt (put-moment p) given-at k
-        (length (tries_up_to at (word_of (nth_step (turns_of t p) k) / 2 ^ 32) tries))
-    enters p k within =
+    -- so many had come at the put of a choice
+    pub came-at : (p k : ℕ) → k < length (t.choices p)
+        → length (tries_up_to at (word_of (nth_step (turns_of t p) k) / 2 ^ 32) tries)
+        ≡ given-at (put-moment p k)
+    came-at p k within =
         let many = turns-counted own t keeps p in
         let u = nth-some (turns_of t p) k (omega arith) in
         let q : ℕ = t.seat p in
-        let entry : ℕ = (places p).entered (turn-number p k) in
         let v = (places p).visits (turn-number p k) (step_by p u.0)
         (nth-moment (t.turns q) (turn-number p k) p u.0 (at_moment p (t.turns q) k u.0 u.1)) in
-        record {
-          entry = board.moment q entry;
-          after = λ j less.
-              board.in_turn q (put-number p j) entry (Gate (Entered u.0.word))
-              (before-entry p j k less within) v.enters;
-          before =
-              board.in_turn q entry (put-number p k)
-              (put_step u.0.chosen.choice.lane u.0.chosen.id u.0.hash u.0.answer) v.after
-              (puts p k u.0 u.1);
-          counts =
-              ap (λ n. length (tries_up_to at n tries))
-              (ap (λ o. word_of o / 2 ^ 32) u.1 ∙ board.entries q entry u.0.word v.enters);
-        }
+        ap (λ n. length (tries_up_to at n tries))
+        (ap (λ o. word_of o / 2 ^ 32) u.1
+        ∙ board.visits q ((places p).entered (turn-number p k)) (put-number p k)
+        u.0.chosen.choice.lane u.0.chosen.id u.0.word u.0.hash u.0.answer v.after v.enters
+        (puts p k u.0 u.1) v.stays)
 
   -- a put of the packet of a choice is the choice's own
   own-put : (p k l q n : ℕ) (c : Chosen) (hash : Option ℕ) (answer : Put)

@@ -35,7 +35,7 @@ use Rattle.headline.specs.HopOrders.{transmit_lists}
 use Rattle.run_promise.specs.BoardOrders.{BoardOrder}
 use Rattle.run_promise.specs.Laws.{BoardsAreOrdered, RunsAreByRun}
 use Rattle.run_promise.proofs.BoardOrderLemmas.{board-order}
-use Rattle.run_promise.proofs.HopLemmas.{enters, given-at, given-rise, hop-order, put-is, was-put}
+use Rattle.run_promise.proofs.HopLemmas.{came-at, given-at, given-rise, hop-order, put-is, was-put}
 
 pub boards-are-ordered : BoardsAreOrdered
 boards-are-ordered =
@@ -140,9 +140,9 @@ module _ (i : Input) (h : History) (run : IsRun i h) where
             given-rise run.rx rx_own run.rx_lists (runs.rx-facts i h run) rx-board run.queues keeps
             (runs.rx-turns i h run) run.tries at_receive (received_sets (receive_queues i))
             kept.own_list kept.are;
-        reads = λ q k less.
+        holds = λ q k less.
             (let size = ap length (run.received.queues.choices q) in
-            enters run.rx rx_own run.rx_lists (runs.rx-facts i h run) rx-board run.queues keeps
+            came-at run.rx rx_own run.rx_lists (runs.rx-facts i h run) rx-board run.queues keeps
             (runs.rx-turns i h run) run.tries at_receive (received_sets (receive_queues i))
             kept.own_list kept.are q k (omega arith));
       }
@@ -166,9 +166,9 @@ module _ (i : Input) (h : History) (run : IsRun i h) where
             given-rise run.tx tx_own run.tx_lists (runs.tx-facts i h run) tx-board run.applications
             keeps (runs.tx-turns i h run) run.tries at_transmit
             (λ w c. sent_sets (length i.plan.tx) c) kept.own_list kept.are;
-        reads = λ a k less.
+        holds = λ a k less.
             (let size = ap length (run.sent.applications.choices a) in
-            enters run.tx tx_own run.tx_lists (runs.tx-facts i h run) tx-board run.applications
+            came-at run.tx tx_own run.tx_lists (runs.tx-facts i h run) tx-board run.applications
             keeps (runs.tx-turns i h run) run.tries at_transmit
             (λ w c. sent_sets (length i.plan.tx) c) kept.own_list kept.are a k (omega arith));
       }

@@ -15,7 +15,7 @@ use Rattle.hop_rule.specs.Sizes.{closer}
 use Rattle.hop_rule.specs.declared.sizes.BoardSizes.{BoardSizes}
 use Rattle.hop_rule.specs.declared.step.BoardStep.{BoardStep}
 use Rattle.hop_rule.specs.declared.step.BoardStep.TheVariants.{Gate, Lane, Weighed}
-use Rattle.hop_rule.specs.declared.step.GateStep.TheVariants.{Entered}
+use Rattle.hop_rule.specs.declared.step.GateStep.TheVariants.{Entered, Left}
 use Rattle.hop_rule.specs.declared.step.LaneStep.TheVariants.{Given}
 use Rattle.board_api.specs.Laws.Puts.{WasDropped, WasPut}
 use Rattle.board_api.specs.OwnSteps.{Has, put_step}
@@ -48,7 +48,7 @@ LaneHasNoCause about hash_of l lane now id =
 
 -- Each own step has its moment, in the order of its seat's list, and the counts at each moment are
 -- those of the board then: each put, each load of a head and each delivery is as they say. The
--- number of a visit is that of the closer's openings before its entry.
+-- number of a visit is that of the gate's openings before each put in it.
 pub record BoardOrder (about : BoardSizes) (own : ℕ → List BoardStep) (lists : BoardLists)
     : Type 0 where
   pub at : ℕ → HopCounts
@@ -77,5 +77,7 @@ pub record BoardOrder (about : BoardSizes) (own : ℕ → List BoardStep) (lists
   pub openings : ℕ → ℕ
   pub openings_rise : (m n : ℕ) → m ≤ n → openings m ≤ openings n
   pub openings_within : (m : ℕ) → openings m ≤ gates.openings (gate_steps (own (closer about)))
-  pub entries : (q k word : ℕ) → Has (own q) k (Gate (Entered word))
-      → word / 2 ^ 32 ≡ openings (moment q k)
+  pub visits : (q entry put l id word : ℕ) (hash : Option ℕ) (answer : Put) → entry < put
+      → Has (own q) entry (Gate (Entered word)) → Has (own q) put (put_step l id hash answer)
+      → ((k : ℕ) → entry < k → k < put → Has (own q) k (Gate Left) → ⊥)
+      → word / 2 ^ 32 ≡ openings (moment q put)

@@ -1,6 +1,7 @@
 use Rattle.headline.proofs.ForgedRunLemmas.{circle-of-queues-forged, future-head-forged}
 use Rattle.headline.proofs.ForgedRunLemmas.{future-transmit-head-forged, overfull-backlog-forged}
-use Rattle.headline.proofs.ForgedRunLemmas.{stale-drop-forged, staler-drop-forged}
+use Rattle.headline.proofs.ForgedRunLemmas.{stale-drop-forged, stale-settings-forged}
+use Rattle.headline.proofs.ForgedRunLemmas.{staler-drop-forged}
 use Rattle.headline.proofs.ForgedRunLemmas.{swapped-inbox-forged, swapped-port-forged}
 use Rattle.headline.proofs.ForgedRunLemmas.{swapped-puts-forged, unpulled-head-forged}
 use Rattle.headline.proofs.laws.forged_runs_are_no_runs.Goals as goal
@@ -34,3 +35,6 @@ returns-clause-overfull_backlog c = overfull-backlog-forged
 
 pub returns-clause-circle_of_queues : goal.returns-clause-circle_of_queues
 returns-clause-circle_of_queues c = circle-of-queues-forged
+
+pub returns-clause-stale_settings : goal.returns-clause-stale_settings
+returns-clause-stale_settings c = stale-settings-forged
