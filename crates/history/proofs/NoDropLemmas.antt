@@ -1,6 +1,7 @@
 -- What lanes without drops have of a packet.
-use Rattle.std.proofs.Common.{ℕ, ◌<◌, ◌≡◌, List, [], ◌∷◌, Option, None, Bool, true, false, length}
-use Rattle.std.proofs.Common.{arith, Result, Ok, Err, refl, ap, ◌∙◌, sym, get_or, replicate, true≢false}
+use Rattle.std.proofs.Common.{ℕ, ◌<◌, ◌≡◌, List, [], ◌∷◌, Option, None, true, false, length}
+use Rattle.std.proofs.Common.{arith, Result, Ok, Err, refl, ap, ◌∙◌, sym, get_or, replicate}
+use Rattle.std.proofs.Common.{true≢false}
 use Rattle.std.specs.Prelude.{IfOk, nat_lt}
 use Rattle.std.specs.List.{list_any}
 use Rattle.std.specs.Option.{option_and_then, option_map, option_or}

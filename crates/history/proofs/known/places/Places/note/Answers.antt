@@ -1,4 +1,4 @@
-use Rattle.std.proofs.Common.{arith, get_or, ap, ◌∙◌, sym, ◌≡◌, length}
+use Rattle.std.proofs.Common.{arith, get_or, ◌∙◌, sym, ◌≡◌}
 use Rattle.std.proofs.lemmas.List.{get_or_default}
 use Rattle.history.proofs.WordLemmas.{note-word}
 use Rattle.history.proofs.known.places.Places.note.Goals as goal
