@@ -25,6 +25,7 @@ RUNS = [
     ["replay", "rests.json", "none.pcap"],
     ["replay", "socks.json", "none.pcap"],
     ["replay", "expires.json", "none.pcap"],
+    ["replay", "flows.json", "none.pcap"],
     ["place", "rules1069.json", "wide.pcap"],
     ["place", "rules4096.json", "wide.pcap"],
 ]

@@ -149,6 +149,7 @@ def main():
         "rests": dict(wide(7), steps=["sweep"] * 1_000_000),
         "socks": dict(wide(7), steps=["sock 65536"] * 100_000),
         "expires": dict(wide(7), steps=["expire"] * 100_000),
+        "flows": dict(wide(7), steps=["flows 0 32768"] * 100_000),
         "rules1069": rules(1069),
         "rules4096": rules(4096),
     }

@@ -5,6 +5,7 @@ mod laws;
 mod list_laws;
 mod rule;
 mod table;
+mod written;
 
 pub use laws::{a_choice_leaves_other_classes, a_class_moves_by_three_conditions};
 pub use list_laws::{

@@ -1,6 +1,6 @@
 //! The table of a queue's classes.
-ghost use Rattle.std.specs.Prelude.{ℕ, ◌≡◌, ◌<◌, ◌≤◌, false, true, length, IfOk, IsSome, replicate};
-ghost use Rattle.std.specs.Prelude.{slice_index_or, take, unwrap_or, vec_capacity, vec_len};
+ghost use Rattle.std.specs.Prelude.{ℕ, ◌≡◌, ◌<◌, ◌≤◌, false, true, length, IfOk, IsSome};
+ghost use Rattle.std.specs.Prelude.{unwrap_or};
 ghost use Rattle.std.specs.Option.{is_some};
 ghost use Rattle.steer_base.specs.Choices.{looks_at_head, migrate};
 ghost use Rattle.steer_base.specs.Counters.{rounded_up};
@@ -9,12 +9,13 @@ ghost use Rattle.steer_base.specs.Sets.{has};
 ghost use Rattle.steer_base.specs.declared.choice.Entry.{Entry as AnEntry};
 ghost use Rattle.steer_base.specs.declared.limits.TheConstants.{MAX_FLOW_COUNT};
 ghost use Rattle.dev_flow_table.specs.Moves.{MovesInTable};
-ghost use Rattle.dev_flow_table.specs.Tables.{IsClassOf, cleared, entries, recorded, unset};
+ghost use Rattle.dev_flow_table.specs.Tables.{IsClassOf, cleared, entries, recorded};
 ghost use Rattle.dev_flow_table.specs.Tables.{weighed};
 ghost use Rattle.dev_flow_table.specs.declared.table.TheConstants.{MAX_EXACT_CLASSES};
 
 use crate::rule::{self, Wish};
-use std::alloc::{AllocError, Global};
+use crate::written::{entry_at, write_at};
+use std::alloc::Global;
 use std::marker::Model;
 use steer_base::{
     Choice, CpuMask, Entry, MAX_FLOW_COUNT, OutOfMemory, Why, place_of_hash, round_up,
@@ -27,7 +28,8 @@ pub const MAX_EXACT_CLASSES: u32 = 262_144;
 /// of the kernel's scaling chapter. Recorded tails are wrapping 32-bit counter numbers.
 #[derive(Drop)]
 pub struct DevTable {
-    // As many as the table ever has, without spare capacity. The first `size` are in use.
+    // The entries up to the last that was written since the table was cleared; those behind them
+    // are unset. There is room for as many as the table ever has.
     rows: Vec<Entry>,
     size: u32,
     start: u32,
@@ -35,24 +37,25 @@ pub struct DevTable {
 }
 
 impl Model for DevTable {
-    ghost use Rattle.std.specs.Prelude.{◌≡◌, ◌≤◌, true, false, take, vec_len, vec_capacity};
+    ghost use Rattle.std.specs.Prelude.{◌≡◌, ◌≤◌, true, false, vec_len, vec_capacity};
     ghost use Rattle.steer_base.specs.declared.limits.TheConstants.{MAX_FLOW_COUNT};
     ghost use Rattle.dev_flow_table.specs.Tables.{Table};
+    ghost use Rattle.dev_flow_table.specs.Written.{filled};
     ghost use Rattle.dev_flow_table.specs.declared.table.TheConstants.{MAX_EXACT_CLASSES};
 
     ghost Value = { Table };
 
     ghost view = { λ t. record {
-      rows = take t.size t.rows.items;
+      rows = filled t.rows.items t.size t.start;
       start = t.start;
       exact = t.exact;
     } };
 
-    ghost invariant = { λ t. (vec_capacity t.rows ≡ vec_len t.rows)
-        × (t.size ≤ vec_len t.rows)
-        × (vec_len t.rows ≤ MAX_EXACT_CLASSES)
-        × (t.exact ≡ false → vec_len t.rows ≡ MAX_FLOW_COUNT)
-        × (t.exact ≡ true → vec_len t.rows ≡ t.size) };
+    ghost invariant = { λ t. (vec_len t.rows ≤ t.size)
+        × (t.size ≤ vec_capacity t.rows)
+        × (vec_capacity t.rows ≤ MAX_EXACT_CLASSES)
+        × (t.exact ≡ false → vec_capacity t.rows ≡ MAX_FLOW_COUNT)
+        × (t.exact ≡ true → vec_capacity t.rows ≡ t.size) };
 }
 
 impl DevTable {
@@ -64,7 +67,7 @@ impl DevTable {
         ensures { IfOk result (λ table. table ≡ cleared (rounded_up count) start false) }
     {
         Ok(DevTable {
-            rows: unset_rows(alloc, MAX_FLOW_COUNT, start)?,
+            rows: Vec::with_capacity(alloc, MAX_FLOW_COUNT as usize)?,
             size: round_up(count),
             start,
             exact: false,
@@ -78,7 +81,7 @@ impl DevTable {
         ensures { IfOk result (λ table. table ≡ cleared count start true) }
     {
         Ok(DevTable {
-            rows: unset_rows(alloc, count, start)?,
+            rows: Vec::with_capacity(alloc, count as usize)?,
             size: count,
             start,
             exact: true,
@@ -98,7 +101,7 @@ impl DevTable {
         requires { class < length self.now.rows }
         ensures { result ≡ (entries self.now class).lane }
     {
-        self.rows[class as usize].lane
+        entry_at(&self.rows, class, self.start).lane
     }
 
     /// The recorded tail of a class.
@@ -106,7 +109,7 @@ impl DevTable {
         requires { class < length self.now.rows }
         ensures { result ≡ (entries self.now class).tail }
     {
-        self.rows[class as usize].tail
+        entry_at(&self.rows, class, self.start).tail
     }
 
     /// Chooses the lane of a packet by the entry of its class, and records the choice in that
@@ -143,9 +146,10 @@ impl DevTable {
             want,
             desired,
         };
-        let entry = self.rows[class as usize];
+        let entry = entry_at(&self.rows, class, self.start);
         let choice = rule::choose(wish, entry, head, online);
-        self.rows[class as usize] = rule::entry_after(self.start, entry, &choice);
+        let after = rule::entry_after(self.start, entry, &choice);
+        write_at(&mut self.rows, class, after, self.start);
         choice
     }
 
@@ -155,7 +159,12 @@ impl DevTable {
         requires set { IsSome (entries self.old class).lane }
         ensures { self.new ≡ recorded self.old class position }
     {
-        self.rows[class as usize].tail = position;
+        let entry = entry_at(&self.rows, class, self.start);
+        let after = Entry {
+            tail: position,
+            ..entry
+        };
+        write_at(&mut self.rows, class, after, self.start);
     }
 
     /// Clears all entries and resizes the table to `count` of them, rounded up to a power of two.
@@ -165,41 +174,6 @@ impl DevTable {
         ensures { self.new ≡ cleared (rounded_up count) self.old.start false }
     {
         self.size = round_up(count);
-        clear(&mut self.rows, self.size, self.start);
-    }
-}
-
-// `count` unset entries, without spare capacity.
-fn unset_rows(alloc: Global, count: u32, start: u32) -> Result<Vec<Entry>, AllocError>
-    ensures rows { IfOk result (λ rows. rows.items ≡ replicate count (unset start)) }
-    ensures len { IfOk result (λ rows. vec_len rows ≡ count) }
-    ensures full { IfOk result (λ rows. vec_capacity rows ≡ count) }
-{
-    let mut rows = Vec::with_capacity(alloc, count as usize)?;
-    for _ in 0..count {
-        rows.push_reserved(unset(start));
-    }
-    Ok(rows)
-}
-
-// Clears the first `count` entries.
-fn clear(rows: &mut Vec<Entry>, count: u32, start: u32)
-    requires { count ≤ vec_len rows.old }
-    ensures rows { take count rows.new.items ≡ replicate count (unset start) }
-    ensures len { vec_len rows.new ≡ vec_len rows.old }
-    ensures capacity { vec_capacity rows.new ≡ vec_capacity rows.old }
-{
-    for class in 0..count {
-        rows[class as usize] = unset(start);
-    }
-}
-
-// The entry of a class without a lane. The lanes' counters begin at `start`.
-fn unset(start: u32) -> Entry
-    ensures { result ≡ unset start }
-{
-    Entry {
-        lane: None,
-        tail: start,
+        self.rows.clear();
     }
 }

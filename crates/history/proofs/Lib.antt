@@ -7,6 +7,7 @@ pub mod FoundAgain
 mod IndexLemmas
 mod LinesFit
 mod LinesLemmas
+mod NoDropLemmas
 pub mod OwnLemmas
 pub mod PlaceLemmas
 mod PositionLemmas
@@ -14,3 +15,4 @@ pub mod RegularLemmas
 mod ReplyLemmas
 pub mod SamePlaces
 mod SlotLemmas
+mod WordLemmas

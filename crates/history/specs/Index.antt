@@ -1,6 +1,6 @@
 -- One slot for each packet, filled by passes over lists; the first value noted for a packet is
 -- kept.
-use Rattle.std.specs.Prelude.{ℕ, suc, ◌≡◌, ◌<◌, List, [], ◌∷◌, Option, Some, None, length}
+use Rattle.std.specs.Prelude.{ℕ, zero, suc, ◌≡◌, ◌<◌, List, [], ◌∷◌, Option, Some, None, length}
 use Rattle.std.specs.Prelude.{slice_index_or, slice_set}
 use Rattle.std.specs.Option.{option_or}
 
@@ -20,3 +20,8 @@ pub record IsIndex {T : Type 0} (count : ℕ) (slots : List (Option T))
     (look : ℕ → Option T) : Type 0 where
   pub width : length slots ≡ count
   pub slot : (x : ℕ) → x < count → slice_index_or slots x None ≡ look x
+
+-- the place that a word stands for: none is 0
+abbrev pub place_of_word : ℕ → Option ℕ
+place_of_word zero = None
+place_of_word (suc n) = Some (suc n)

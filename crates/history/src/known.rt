@@ -4,12 +4,14 @@ ghost use Rattle.history.specs.Known.{HasShortLists, IsKnown};
 
 pub mod counted;
 pub mod index;
+pub mod places;
 
 use crate::history::History;
 use crate::sent::Sent;
 use index::{
     Index, index_accepted, index_choices, index_drops, index_list, index_places, index_sent,
 };
+use places::Places;
 use std::alloc::Global;
 use steer_base::{Choice, OutOfMemory, Put};
 
@@ -20,19 +22,19 @@ pub struct Known {
     /// The choice of a processor.
     pub choices: Index<Choice>,
     /// The place among the packets that a processor accepted.
-    pub accepted: Index<u32>,
+    pub accepted: Places,
     /// The drop at a processor, with its number.
     pub drops: Index<Put>,
     /// The place in an inbox.
-    pub inboxes: Index<u32>,
+    pub inboxes: Places,
     /// The reply, if one was begun.
     pub sent: Index<Sent>,
     /// The choice of a transmit queue for the reply.
     pub tx_choices: Index<Choice>,
     /// The place among the packets that a transmit queue accepted.
-    pub tx_accepted: Index<u32>,
+    pub tx_accepted: Places,
     /// The place among the packets that left by the port.
-    pub port: Index<u32>,
+    pub port: Places,
 }
 
 impl Known {

@@ -20,6 +20,7 @@ pub use history::History;
 pub use known::Known;
 pub use known::counted::Counted;
 pub use known::index::Index;
+pub use known::places::Places;
 pub use lane_list::LaneList;
 pub use laws::{
     a_packet_has_one_place, few_lanes_are_in_reach, histories_are_found_again, lines_fit,

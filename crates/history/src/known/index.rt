@@ -8,6 +8,7 @@ ghost use Rattle.history.specs.Index.{IsIndex, noted, noted_by};
 ghost use Rattle.history.specs.Lines.{accepted_place, choice_in, drop_in};
 ghost use Rattle.history.specs.Lists.{lane_at, list_at};
 
+use crate::known::places::Places;
 use crate::lane_list::LaneList;
 use crate::sent::Sent;
 use std::alloc::Global;
@@ -112,11 +113,11 @@ pub(crate) fn index_places(
     alloc: Global,
     count: usize,
     lists: &List<List<PacketId>>,
-) -> Result<Index<u32>, OutOfMemory>
+) -> Result<Places, OutOfMemory>
     requires { (i : ℕ) → length (list_at lists.now i) < 2 ^ 32 }
     ensures { IfOk result (λ i. IsIndex count i (λ x. first_some (place_in x) lists.now)) }
 {
-    let mut index = Index::empty(alloc, count)?;
+    let mut index = Places::empty(alloc, count)?;
     for list in lists.as_slice() {
         note_places(&mut index, list);
     }
@@ -128,11 +129,11 @@ pub(crate) fn index_list(
     alloc: Global,
     count: usize,
     list: &List<PacketId>,
-) -> Result<Index<u32>, OutOfMemory>
+) -> Result<Places, OutOfMemory>
     requires { length list.now < 2 ^ 32 }
     ensures { IfOk result (λ i. IsIndex count i (λ x. place_in x list.now)) }
 {
-    let mut index = Index::empty(alloc, count)?;
+    let mut index = Places::empty(alloc, count)?;
     note_places(&mut index, list);
     Ok(index)
 }
@@ -142,18 +143,18 @@ pub(crate) fn index_accepted(
     alloc: Global,
     count: usize,
     lanes: &List<LaneList>,
-) -> Result<Index<u32>, OutOfMemory>
+) -> Result<Places, OutOfMemory>
     requires { (c : ℕ) → length (lane_at lanes.now c).accepted < 2 ^ 32 }
     ensures { IfOk result (λ i. IsIndex count i (λ x. accepted_place lanes.now x)) }
 {
-    let mut index = Index::empty(alloc, count)?;
+    let mut index = Places::empty(alloc, count)?;
     for lane in lanes.as_slice() {
         note_places(&mut index, &lane.accepted);
     }
     Ok(index)
 }
 
-fn note_places(index: &mut Index<u32>, list: &List<PacketId>)
+fn note_places(index: &mut Places, list: &List<PacketId>)
     requires { length list.now < 2 ^ 32 }
     ensures { index.new ≡ noted_by (λ x. x) (λ i x. i + 1) 0 index.old list.now }
 {

@@ -30,6 +30,18 @@ impl Actors {
         ensures rooms { self.new.rooms ≡ self.old.rooms }
     {
         let to = self.destination(c);
+        self.deliver_to(c, to)
+    }
+
+    /// Delivers the packet in hand to the inbox of its application, which is `to`.
+    pub(super) fn deliver_to(&mut self, c: u8, to: u8) -> Answer
+        requires cpu { c < self.old.machine.setup.cpus }
+        requires to { to ≡ app_for self.old.machine.setup (in_lane self.old.machine.rx c) }
+        ensures state { self.new.machine ≡ (cpu_delivers self.old.machine c).0 }
+        ensures answer { result ≡ (cpu_delivers self.old.machine c).1 }
+        ensures setup { self.new.machine.setup ≡ self.old.machine.setup }
+        ensures rooms { self.new.rooms ≡ self.old.rooms }
+    {
         told(self.rx.deliver(c, to))
     }
 

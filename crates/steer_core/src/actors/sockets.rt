@@ -1,11 +1,12 @@
 //! The step of a socket: an application records its processor for a flow.
 ghost use Rattle.std.specs.Prelude.{◌≡◌, ◌<◌, length};
 ghost use Rattle.steer_core.specs.Rooms.{HasSpare};
+ghost use Rattle.steer_model.specs.State.Setup.{flow_number_of};
 ghost use Rattle.steer_model.specs.Steps.Applications.{record_flow, record_hash, visited, wrote};
 
 use crate::actors::Actors;
 use history::SockWrite;
-use steer_base::{Answer, Idle, app_of};
+use steer_base::{Answer, Idle, PacketId, app_of};
 
 impl Actors {
     /// Records the processor of the application of a flow in the socket flow table.
@@ -25,11 +26,30 @@ impl Actors {
         self.record_hash(hash)
     }
 
+    /// Records the processor of the application of a packet's flow. A packet of the capture has the
+    /// hash of its flow, so this is not looked up.
+    pub(super) fn record_of(&mut self, id: PacketId)
+        requires { HasSpare self.old.rooms self.old.machine }
+        ensures state { self.new.machine
+            ≡ (record_flow self.old.machine (flow_number_of self.old.machine.setup id)).0 }
+        ensures setup { self.new.machine.setup ≡ self.old.machine.setup }
+        ensures rooms { self.new.rooms ≡ self.old.rooms }
+    {
+        self.sound();
+        if id.0 >= self.given.packet_count() {
+            let flow = self.given.flow_of(id);
+            self.record(flow);
+        } else if let Some(hash) = self.given.hash_of(id) {
+            self.record_hash(hash);
+        }
+    }
+
     // The application of a hash goes through the receive gate and records its processor.
     fn record_hash(&mut self, hash: u32) -> Answer
         requires { HasSpare self.old.rooms self.old.machine }
         ensures state { self.new.machine ≡ (record_hash self.old.machine hash).0 }
         ensures answer { result ≡ (record_hash self.old.machine hash).1 }
+        ensures setup { self.new.machine.setup ≡ self.old.machine.setup }
         ensures rooms { self.new.rooms ≡ self.old.rooms }
     {
         if self.settings.sock() == 0 {

@@ -104,8 +104,9 @@ impl Actors {
     {
         self.sound();
         let worked = worked_by(worked, self.pull(c));
-        mark(apps, self.destination(c));
-        let worked = worked_by(worked, self.deliver(c));
+        let to = self.destination(c);
+        mark(apps, to);
+        let worked = worked_by(worked, self.deliver_to(c, to));
         worked_by(worked, self.retire(c))
     }
 
@@ -154,8 +155,7 @@ impl Actors {
         ensures rooms { self.new.rooms ≡ self.old.rooms }
     {
         if let Some(id) = self.replying(a) {
-            let flow = self.given.flow_of(id);
-            self.record(flow);
+            self.record_of(id);
         }
         worked
     }

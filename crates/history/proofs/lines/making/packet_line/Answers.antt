@@ -39,7 +39,7 @@ returns c =
     ∙ ap (λ r. nat_lt r (slice_index h.taken (arrival_of h.arrivals x).queue)) c.requires.rank
     ∙ taken-at packets apps h regular x here in
     let accepted = c.get.ensures ∙ slots.accepted.slot x here in
-    let drop = c.get-2.ensures ∙ slots.drops.slot x here in
+    let drop = c.get-2.ensures ∙ slots.drops x here in
     let put : c.put_of.result ≡ put_of h x =
     c.put_of.ensures ∙ ap (λ o. option_or (option_map (λ n. At n) (option_map (number h.start) o))
     c.get-2.result) accepted

@@ -12,8 +12,8 @@ returns-clause-turn c =
     then-with {m = c.args.self.now.machine} {w = c.args.worked} refl (act.Pull c.args.c)
     c.pull.ensures.state refl c.pull.ensures.answer c.worked_by-worked.ensures in
     let deliver-tried =
-    then-with pull-tried (act.Deliver c.args.c) c.deliver.ensures.state refl
-    c.deliver.ensures.answer c.worked_by-worked-2.ensures in
+    then-with pull-tried (act.Deliver c.args.c) c.deliver_to.ensures.state refl
+    c.deliver_to.ensures.answer c.worked_by-worked-2.ensures in
     then-with deliver-tried (act.Retire c.args.c) c.retire.ensures.state refl
     c.retire.ensures.answer c.worked_by.ensures
 
@@ -24,12 +24,12 @@ returns-clause-apps c =
     let mark = c.mark.ensures.marked a (omega (arith, lt, few)) free in
     let m : Machine = c.args.self.now.machine in
     let n : Machine = c.pull.new.self.machine in
-    let o : Machine = c.deliver.new.self.machine in
+    let o : Machine = c.deliver_to.new.self.machine in
     let p : Machine = c.retire.new.self.machine in (
       mark.0,
       sender-trans a m o p
           (sender-trans a m n o (sender-pull a c.args.c m n c.pull.ensures.state)
-          (sender-deliver a c.args.c n o (λ e. mark.1 (e ∙ sym c.destination.ensures))
-          c.deliver.ensures.state))
+          (sender-deliver a c.args.c n o (λ e. mark.1 (e ∙ sym c.destination-to.ensures))
+          c.deliver_to.ensures.state))
           (sender-retire a c.args.c o p c.retire.ensures.state),
     ))
