@@ -1,7 +1,7 @@
 -- The calls of a turn, one after another.
-use Rattle.std.proofs.Common.{◌≡◌, ◌≢◌, ◌⊎◌, inl, inr, ℕ, zero, suc, ◌+◌, ◌<◌, ◌≤◌, ◌||◌, Bool, true}
-use Rattle.std.proofs.Common.{false, List, [], ◌∷◌, Some, length, refl, sym, ap, subst, ◌∙◌, arith}
-use Rattle.std.proofs.Common.{slice_get, slice_set}
+use Rattle.std.proofs.Common.{◌≡◌, ◌≢◌, ◌⊎◌, inl, inr, ℕ, zero, suc, ◌+◌, ◌<◌, ◌≤◌, ◌||◌}
+use Rattle.std.proofs.Common.{Bool, true, false, List, [], ◌∷◌, Some, length, refl, sym, ap, subst}
+use Rattle.std.proofs.Common.{◌∙◌, arith, slice_get, slice_set}
 use Rattle.std.proofs.lemmas.Option.{slice_get_within}
 use Rattle.hop_rule.proofs.Lists.{some-is}
 use Rattle.run_words.specs.declared.seats.Seats.{Seats}
@@ -163,29 +163,29 @@ pub others_both : (p : Part) (u v w : Worker) → OthersStay p u v → OthersSta
 others_both p u v w first second q apart = second q apart ∙ first q apart
 
 module _ (v w : Worker) where
-  pub others_of_poll : w.drains.items ≡ v.drains.items → w.servers.items ≡ v.servers.items → w.ships.items ≡ v.ships.items
-      → OthersStay part.Poll v w
+  pub others_of_poll : w.drains.items ≡ v.drains.items → w.servers.items ≡ v.servers.items
+      → w.ships.items ≡ v.ships.items → OthersStay part.Poll v w
   others_of_poll drains servers ships part.Poll apart = absurd (apart refl)
   others_of_poll drains servers ships part.Drain apart = drains
   others_of_poll drains servers ships part.Serve apart = servers
   others_of_poll drains servers ships part.Ship apart = ships
 
-  pub others_of_drain : w.pollers.items ≡ v.pollers.items → w.servers.items ≡ v.servers.items → w.ships.items ≡ v.ships.items
-      → OthersStay part.Drain v w
+  pub others_of_drain : w.pollers.items ≡ v.pollers.items → w.servers.items ≡ v.servers.items
+      → w.ships.items ≡ v.ships.items → OthersStay part.Drain v w
   others_of_drain pollers servers ships part.Poll apart = pollers
   others_of_drain pollers servers ships part.Drain apart = absurd (apart refl)
   others_of_drain pollers servers ships part.Serve apart = servers
   others_of_drain pollers servers ships part.Ship apart = ships
 
-  pub others_of_serve : w.pollers.items ≡ v.pollers.items → w.drains.items ≡ v.drains.items → w.ships.items ≡ v.ships.items
-      → OthersStay part.Serve v w
+  pub others_of_serve : w.pollers.items ≡ v.pollers.items → w.drains.items ≡ v.drains.items
+      → w.ships.items ≡ v.ships.items → OthersStay part.Serve v w
   others_of_serve pollers drains ships part.Poll apart = pollers
   others_of_serve pollers drains ships part.Drain apart = drains
   others_of_serve pollers drains ships part.Serve apart = absurd (apart refl)
   others_of_serve pollers drains ships part.Ship apart = ships
 
-  pub others_of_ship : w.pollers.items ≡ v.pollers.items → w.drains.items ≡ v.drains.items → w.servers.items ≡ v.servers.items
-      → OthersStay part.Ship v w
+  pub others_of_ship : w.pollers.items ≡ v.pollers.items → w.drains.items ≡ v.drains.items
+      → w.servers.items ≡ v.servers.items → OthersStay part.Ship v w
   others_of_ship pollers drains servers part.Poll apart = pollers
   others_of_ship pollers drains servers part.Drain apart = drains
   others_of_ship pollers drains servers part.Serve apart = servers

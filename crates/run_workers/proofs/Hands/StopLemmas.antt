@@ -25,7 +25,8 @@ use Rattle.run_workers.proofs.Hands.DeltaLemmas.{serves_next}
 -- ---- looks that find nothing
 
 pub finds_none : (about : BoardSizes) (l count : ℕ) (a b c : BoardSeatView) (h : HeldLane)
-    → Took about (id.Middle l) a b h → PullTells about h b c pull.Empty → FindsNone about l count a c
+    → Took about (id.Middle l) a b h → PullTells about h b c pull.Empty
+    → FindsNone about l count a c
 finds_none about l count a b c (held.Middle i content) took told =
     inr (inr (
       content,
