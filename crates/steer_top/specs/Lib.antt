@@ -11,4 +11,5 @@ pub mod Outcomes
 pub mod Headlines
 pub mod Endings
 pub mod Calls
+pub mod Functions
 pub mod Laws

@@ -28,6 +28,7 @@ mod writing;
 
 pub use laws::{
     a_call_is_decided, a_replay_is_checked, a_run_is_found_good, both_directions_have_one_queue,
+    texts_are_functions,
 };
 pub use live::steer_live;
 pub use still::steer_still;
