@@ -9,6 +9,7 @@ pub mod Functions
 pub mod Headlines
 pub mod Inputs
 pub mod Lines
+pub mod MemoryCalls
 pub mod Plans
 pub mod SameCalls
 pub mod Statuses

@@ -12,4 +12,5 @@ pub mod Headlines
 pub mod Endings
 pub mod Calls
 pub mod Functions
+pub mod InMemory
 pub mod Laws
