@@ -11,4 +11,5 @@ pub mod Sink
 pub mod StdSink
 pub mod SureDesk
 pub mod SureSink
+pub mod Trails
 pub use Rattle.std.specs.Io.KnownBytes

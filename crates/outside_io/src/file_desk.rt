@@ -1,22 +1,25 @@
 //! A desk over the files of the operating system.
-ghost use Rattle.std.specs.Prelude.{◌≡◌, ◌<◌, ◌≤◌, None, IsSome, length, option_and_then};
+ghost use Rattle.std.specs.Prelude.{◌≡◌, ◌<◌, ◌≤◌, IfSome, None, IsSome, Some, length};
+ghost use Rattle.std.specs.Prelude.{option_and_then};
 ghost use Rattle.outside_io.specs.Counts.{Rose, counted, last_count, raised};
 ghost use Rattle.outside_io.specs.Desk.{Begins, GoesOnTelling, Reads, read_count};
 ghost use Rattle.outside_io.specs.Desk.{has_failed, read_failed, untold};
-ghost use Rattle.outside_io.specs.FileDesk.{file_desk_faults, file_of};
+ghost use Rattle.outside_io.specs.FileDesk.{file_desk_asked, file_desk_faults, file_of};
 
+use crate::ghost_bytes::GhostBytes;
 use crate::retrying::read_retrying;
 use crate::{Begin, Desk, Got};
 use std::fs;
 use std::rt::Files;
 
-/// The files of the operating system, by path. Its contracts say nothing about the bytes of a file,
-/// and it counts neither bytes nor reads. A name that cannot be opened fails at `begin`; a folder
-/// or a bad disk fails at `read`.
+/// The files of the operating system, by path. It observes the name that was asked for last. Its
+/// contracts say nothing about the bytes of a file, and it counts neither bytes nor reads. A name
+/// that cannot be opened fails at `begin`; a folder or a bad disk fails at `read`.
 #[derive(Drop)]
 pub struct FileDesk<R: Files + Drop> {
     rt: R,
     file: Option<R::File>,
+    asked: Option<GhostBytes>,
     faults: u64,
 }
 
@@ -24,11 +27,13 @@ impl<R: Files + Drop> FileDesk<R> {
     /// A desk on which no file is begun and no call has failed.
     pub fn make(rt: R) -> Self
         ensures begun { file_of result ≡ None }
+        ensures asked { file_desk_asked result ≡ None }
         ensures faults { file_desk_faults result ≡ 0 }
     {
         FileDesk {
             rt,
             file: None,
+            asked: None,
             faults: 0,
         }
     }
@@ -38,6 +43,8 @@ impl<R: Files + Drop> Desk for FileDesk<R> {
     ghost held = { λ _. untold };
 
     ghost left = { λ _. None };
+
+    ghost asked = { λ desk. file_desk_asked desk };
 
     ghost taken = { λ _. last_count };
 
@@ -49,18 +56,21 @@ impl<R: Files + Drop> Desk for FileDesk<R> {
         ensures held { untold ≡ untold }
         ensures left { Begins result None None }
         ensures told { GoesOnTelling None None }
+        ensures asked { IfSome (file_desk_asked self.new) (λ asked. asked ≡ name.now) }
         ensures taken { last_count ≡ last_count }
         ensures reads { last_count ≡ last_count }
         ensures later { file_desk_faults self.old ≤ file_desk_faults self.new }
         ensures failed { result ≡ Begin.Failed → Rose (file_desk_faults self.old)
             (file_desk_faults self.new) }
 
+        ensures name { file_desk_asked self.new ≡ Some name.now }
         ensures begun { result ≡ Begin.Ok → IsSome (file_of self.new) }
         ensures stopped { result ≡ Begin.Failed → file_of self.new ≡ None }
         ensures counted { file_desk_faults self.new ≡ counted (has_failed result)
             (file_desk_faults self.old) }
     {
         self.file = None;
+        self.asked = Some(GhostBytes::of(name.as_bytes()));
         let Ok(file) = fs::open(&self.rt, name) else {
             self.faults = self.faults.saturating_add(1);
             return Begin::Failed;
@@ -73,6 +83,7 @@ impl<R: Files + Drop> Desk for FileDesk<R> {
         requires { 0 < length buf.old }
         ensures held { untold ≡ untold }
         ensures left { Reads result buf.new None None }
+        ensures asked { file_desk_asked self.new ≡ file_desk_asked self.old }
         ensures taken { last_count ≡ raised (read_count result) last_count }
         ensures reads { last_count ≡ raised 1 last_count }
         ensures later { file_desk_faults self.old ≤ file_desk_faults self.new }

@@ -7,6 +7,7 @@ mod desk;
 mod failures;
 mod file_desk;
 mod folder;
+mod ghost_bytes;
 mod memory_desk;
 mod memory_sink;
 mod reading;

@@ -12,6 +12,8 @@ mod faults;
 #[cfg(test)]
 mod holds;
 #[cfg(test)]
+mod in_memory;
+#[cfg(test)]
 mod reports;
 #[cfg(test)]
 mod runs;

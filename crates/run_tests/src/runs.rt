@@ -14,7 +14,7 @@ use std::sync::Wait;
 use std::test::Fail;
 use std::thread::Threads;
 use steer_base::{OutOfMemory, Packet};
-use steer_top::steer;
+use steer_top::{steer, steer_in_memory};
 use taps::Tap;
 use workers::run_threads;
 
@@ -58,17 +58,42 @@ pub fn words_of(alloc: Global, texts: &[&str]) -> Result<Vec<String>, Fail> {
     Ok(words)
 }
 
+// These files, each a name and its bytes.
+fn files_of(alloc: Global, files: &[(&str, &[u8])]) -> Result<Vec<(String, Vec<u8>)>, Fail> {
+    let mut held = Vec::new(alloc);
+    for (name, bytes) in files {
+        held.push((String::from_str(alloc, *name)?, bytes.to_vec(alloc)?))?;
+    }
+    Ok(held)
+}
+
 /// A desk with these files, whose calls with these numbers fail.
 pub fn desk_of(
     alloc: Global,
     files: &[(&str, &[u8])],
     failing: &[u64],
 ) -> Result<MemoryDesk, Fail> {
-    let mut held = Vec::new(alloc);
-    for (name, bytes) in files {
-        held.push((String::from_str(alloc, *name)?, bytes.to_vec(alloc)?))?;
-    }
+    let held = files_of(alloc, files)?;
     Ok(MemoryDesk::make(held, failing.to_vec(alloc)?))
+}
+
+/// What a call of these words comes to, over these files, with these taps and this pace.
+pub fn called_over<R: Threads + Wait + Sync>(
+    rt: &R,
+    alloc: Global,
+    texts: &[&str],
+    files: &[(&str, &[u8])],
+    taps: Vec<Box<dyn Tap>>,
+    pace: &Holding,
+) -> Result<Outcome, Fail> {
+    let words = words_of(alloc, texts)?;
+    let held = files_of(alloc, files)?;
+    let called = steer_in_memory(rt, alloc, &words, held, ROOM, taps, pace)?;
+    Ok(Outcome {
+        status: called.status,
+        out: called.out.bytes().to_vec(alloc)?,
+        err: called.err.bytes().to_vec(alloc)?,
+    })
 }
 
 /// What a call of these words comes to, over this desk, where the writes of these numbers fail,
@@ -102,9 +127,8 @@ pub fn run_of<'a, R: Threads + Wait + Sync>(
     taps: Vec<Box<dyn Tap>>,
     pace: &Holding,
 ) -> Result<Outcome, Fail> {
-    let desk = desk_of(alloc, &[("p.json", plan), ("a.pcap", capture)], &[])?;
-    let texts = ["run", "p.json", "a.pcap"];
-    called(rt, alloc, &texts, desk, &[], taps, pace)
+    let files = [("p.json", plan), ("a.pcap", capture)];
+    called_over(rt, alloc, &["run", "p.json", "a.pcap"], &files, taps, pace)
 }
 
 /// What `check` comes to by this plan and this capture of this report.
@@ -116,8 +140,7 @@ pub fn check_of<'a, R: Threads + Wait + Sync>(
     report: &'a [u8],
 ) -> Result<Outcome, Fail> {
     let files = [("p.json", plan), ("a.pcap", capture), ("report", report)];
-    let desk = desk_of(alloc, &files, &[])?;
     let texts = ["check", "p.json", "a.pcap", "report"];
     let pace = Holding::make(&[], 1);
-    called(rt, alloc, &texts, desk, &[], Vec::new(alloc), &pace)
+    called_over(rt, alloc, &texts, &files, Vec::new(alloc), &pace)
 }

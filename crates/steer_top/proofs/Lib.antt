@@ -4,8 +4,13 @@ pub mod CheckedReplays
 pub mod CheckedRuns
 pub mod Commands
 pub mod Decided
+pub mod FewPackets
+pub mod Functions
 pub mod Headlines
 pub mod Inputs
 pub mod Lines
+pub mod MemoryCalls
+pub mod Plans
+pub mod SameCalls
 pub mod Statuses
 pub mod Tellings

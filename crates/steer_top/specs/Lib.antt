@@ -11,4 +11,6 @@ pub mod Outcomes
 pub mod Headlines
 pub mod Endings
 pub mod Calls
+pub mod Functions
+pub mod InMemory
 pub mod Laws

@@ -11,6 +11,7 @@ mod gen_command;
 mod hash_command;
 mod hash_line;
 mod hasher;
+mod in_memory;
 mod input;
 mod laws;
 mod live;
@@ -26,8 +27,10 @@ mod top;
 mod words;
 mod writing;
 
+pub use in_memory::{InMemory, steer_in_memory};
 pub use laws::{
     a_call_is_decided, a_replay_is_checked, a_run_is_found_good, both_directions_have_one_queue,
+    texts_are_functions,
 };
 pub use live::steer_live;
 pub use still::steer_still;
