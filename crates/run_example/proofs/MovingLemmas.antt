@@ -135,16 +135,100 @@ module _ (table : TableId) where
     order = moving_hint_order;
     lawful = (
       refl,
-      (refl, (tt, (refl, (tt, (refl, (refl, (refl, (tt, (refl, (tt, (refl, (refl, (refl,
-      (refl, (refl, (tt, (refl, (refl, (refl, (refl, tt)))))))))))))))))))),
+      (
+        refl,
+        (
+          tt,
+          (
+            refl,
+            (
+              tt,
+              (
+                refl,
+                (
+                  refl,
+                  (
+                    refl,
+                    (
+                      tt,
+                      (
+                        refl,
+                        (
+                          tt,
+                          (
+                            refl,
+                            (
+                              refl,
+                              (
+                                refl,
+                                (refl, (refl, (tt, (refl, (refl, (refl, (refl, tt))))))),
+                              ),
+                            ),
+                          ),
+                        ),
+                      ),
+                    ),
+                  ),
+                ),
+              ),
+            ),
+          ),
+        ),
+      ),
     );
     parts = record {
       each = all_of_each (HasPart moving_hint_order) seats (refl, (refl, tt));
       whole = all_of_each (IsByOne seats) moving_hint_order (
         by-worker,
-        (by-worker, (by-worker, (by-worker, (by-wire, (by-wire, (by-worker, (by-worker, (by-worker,
-        (by-worker, (by-worker, (by-worker, (by-wire, (by-wire, (by-worker, (by-worker, (by-worker,
-        (by-worker, (by-worker, (by-wire, (by-wire, tt)))))))))))))))))))),
+        (
+          by-worker,
+          (
+            by-worker,
+            (
+              by-worker,
+              (
+                by-wire,
+                (
+                  by-wire,
+                  (
+                    by-worker,
+                    (
+                      by-worker,
+                      (
+                        by-worker,
+                        (
+                          by-worker,
+                          (
+                            by-worker,
+                            (
+                              by-worker,
+                              (
+                                by-wire,
+                                (
+                                  by-wire,
+                                  (
+                                    by-worker,
+                                    (
+                                      by-worker,
+                                      (
+                                        by-worker,
+                                        (by-worker, (by-worker, (by-wire, (by-wire, tt)))),
+                                      ),
+                                    ),
+                                  ),
+                                ),
+                              ),
+                            ),
+                          ),
+                        ),
+                      ),
+                    ),
+                  ),
+                ),
+              ),
+            ),
+          ),
+        ),
       );
     };
   }
