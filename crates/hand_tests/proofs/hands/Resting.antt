@@ -81,9 +81,10 @@ module _ (own : ℕ → Bool) (board : BoardView) (number : ℕ) (old new : Seat
       → IsOutside new.steps → HasOpen new.steps → RestsBut own board number new
   polls_rest given filters p q hint_old hint_new r polls outside unclosed = by_case polls.steers
     where
-      by_steps : (new ≡ old) ⊎ ((word : ℕ) × Adds (Gate Left ∷ Gate (Turned word) ∷ []) old new)
+      by_steps : ((polls.mid.hand ≡ None) × (new ≡ old))
+          ⊎ ((word : ℕ) × Adds (Gate Left ∷ Gate (Turned word) ∷ []) old new)
           → RestsBut own board number new
-      by_steps (inl same) = subst (RestsBut own board number) (sym same) r
+      by_steps (inl (none, same)) = subst (RestsBut own board number) (sym same) r
       by_steps (inr (word, adds)) =
           rests_on (Gate Left ∷ Gate (Turned word) ∷ []) r adds outside unclosed r.lanes r.outs
           (λ l other. refl)

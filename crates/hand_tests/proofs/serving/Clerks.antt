@@ -47,14 +47,10 @@ module _ (board : BoardView) (number : ℕ) (old new : Seat) where
       (ap (λ (s : Seat). closed (gate_steps s.steps)) adds ∙ r.gate)
       r.lanes r.outs (λ l other. refl)
 
-  gate_rests : Rests board number old → (new ≡ old) ⊎ BacksOut old new → Rests board number new
-  gate_rests r (inl same) = subst (Rests board number) (sym same) r
-  gate_rests r (inr out) = out_rests r out
-
-  kept_rests : {A : Type 0} → Rests board number old → (new ≡ old) ⊎ (A × BacksOut old new)
-      → Rests board number new
-  kept_rests r (inl same) = subst (Rests board number) (sym same) r
-  kept_rests r (inr out) = out_rests r out.1
+  gate_rests : {A B : Type 0} → Rests board number old
+      → (A × (new ≡ old)) ⊎ (B × BacksOut old new) → Rests board number new
+  gate_rests r (inl same) = subst (Rests board number) (sym same.1) r
+  gate_rests r (inr out) = out_rests r out.1
 
 takes_rest : (board : BoardView) (number : ℕ) (about : BoardSizes) (given : Setup) (s t : Server)
     (took : Bool) (old new : Seat) (hint_old hint_new : Hint) → Rests board number old
@@ -86,7 +82,7 @@ replies_rest board number given late s t true old new hint_old hint_new r x outs
     (λ o. v.holds.outs o old.steps (r.outs o))
     (λ l other. (v.leaves l).hand old.steps)
 replies_rest board number given late s t false old new hint_old hint_new r x outside unclosed =
-    kept_rests board number old new r x.gate
+    gate_rests board number old new r x.gate
 
 -- an out lane that the closer took and gave back
 open_as_before : (about : BoardSizes) (o : ℕ) (a b c : Seat) (h : HeldLane)
