@@ -19,16 +19,16 @@ use Rattle.hint_words.proofs.Sources.{among_own, from_map}
 -- ---- the place of a seat's own step in an order
 
 -- What is before a step of an order, and what is after it; the seat had made n steps.
-record IsAt (order : List (StepBy HintStep)) (p n : ℕ) (d : HintStep) : Type 0 where
-  newer : List (StepBy HintStep)
-  older : List (StepBy HintStep)
-  cut : order ≡ newer ++ step_by p d ∷ older
-  count : length (steps_of p older) ≡ n
+pub record IsAt (order : List (StepBy HintStep)) (p n : ℕ) (d : HintStep) : Type 0 where
+  pub newer : List (StepBy HintStep)
+  pub older : List (StepBy HintStep)
+  pub cut : order ≡ newer ++ step_by p d ∷ older
+  pub count : length (steps_of p older) ≡ n
 
 none-is : {A B : Type 0} (x : A) → None ≡ Some x → B
 none-is x e = cc
 
-is-at : (order : List (StepBy HintStep)) (p n : ℕ) (d : HintStep)
+pub is-at : (order : List (StepBy HintStep)) (p n : ℕ) (d : HintStep)
     → step_at (steps_of p order) n ≡ Some d → IsAt order p n d
 is-at [] p n d at = none-is d at
 is-at (e ∷ es) p n d at =
@@ -72,7 +72,8 @@ is-at (e ∷ es) p n d at =
 
 -- ---- lawful orders
 
-older-lawful : (newer older : List (StepBy HintStep)) → IsLawful (newer ++ older) → IsLawful older
+pub older-lawful : (newer older : List (StepBy HintStep)) → IsLawful (newer ++ older)
+    → IsLawful older
 older-lawful [] older lawful = lawful
 older-lawful (e ∷ newer) older lawful = older-lawful newer older lawful.1
 
@@ -119,12 +120,27 @@ member-of (x ∷ newer) older e (suc k, less, is) =
     let rest = member-of newer older e (k, omega (arith, less), is) in
     let small = rest.1 in (suc rest.0, omega (arith, small), rest.2)
 
-member-older : (newer older : List (StepBy HintStep)) (e : StepBy HintStep) → Contains older e
+pub member-older : (newer older : List (StepBy HintStep)) (e : StepBy HintStep) → Contains older e
     → Contains (newer ++ older) e
 member-older [] older e c = c
 member-older (x ∷ newer) older e c =
     let rest = member-older newer older e c in
     let small = rest.1 in (suc rest.0, omega (arith, small), rest.2)
+
+-- a step is after all that are older
+pub longer : (newer older : List (StepBy HintStep)) (p : ℕ) (d : HintStep)
+    → length (steps_of p older) < length (steps_of p (newer ++ step_by p d ∷ older))
+longer [] older p d =
+    let n = ap length (if_same p p (d ∷ steps_of p older) (steps_of p older) refl) in
+    omega (arith, n)
+longer (x ∷ newer) older p d =
+    let below = longer newer older p d in
+    let rest : List HintStep = steps_of p (newer ++ step_by p d ∷ older) in
+    dite (ℕ_discrete x.by p)
+    (λ mine. let n = ap length (if_same x.by p (x.step ∷ rest) rest mine) in
+    omega (arith, n, below))
+    (λ other. let n = ap length (if_other x.by p (x.step ∷ rest) rest other) in
+    omega (arith, n, below))
 
 -- an older step of a list is one of what is before a newer one
 among-older : (newer older : List (StepBy HintStep)) (p k : ℕ) (d e : HintStep)
@@ -139,27 +155,12 @@ among-older (x ∷ newer) older p k d e less at =
     let rest : List HintStep = steps_of p (newer ++ step_by p d ∷ older) in
     among-older newer older p k d e less (dite (ℕ_discrete x.by p)
     (λ mine.
-    let more = past newer in
+    let more = longer newer older p d in
     sym (ap (λ ds. step_at ds k) (if_same x.by p (x.step ∷ rest) rest mine)
     ∙ if_other (length rest) k (Some x.step) (step_at rest k)
     (λ same. absurd (omega (arith, less, same, more))))
     ∙ at)
     (λ other. sym (ap (λ ds. step_at ds k) (if_other x.by p (x.step ∷ rest) rest other)) ∙ at))
-  where
-    past : (xs : List (StepBy HintStep))
-        → length (steps_of p older) < length (steps_of p (xs ++ step_by p d ∷ older))
-    past [] =
-        let n = ap length (if_same p p (d ∷ steps_of p older) (steps_of p older) refl) in
-        omega (arith, n)
-    past (y ∷ ys) =
-        let below = past ys in
-        dite (ℕ_discrete y.by p)
-        (λ mine. let n = ap length (if_same y.by p
-        (y.step ∷ steps_of p (ys ++ step_by p d ∷ older))
-        (steps_of p (ys ++ step_by p d ∷ older)) mine) in omega (arith, n, below))
-        (λ other. let n = ap length (if_other y.by p
-        (y.step ∷ steps_of p (ys ++ step_by p d ∷ older))
-        (steps_of p (ys ++ step_by p d ∷ older)) other) in omega (arith, n, below))
 
 module _ (seats : List (SeatView HintStep)) (seat : SeatView HintStep) (i first second m n : ℕ)
     (ended : HaveEnded seats) (among : Contains seats seat) (before : first < second)

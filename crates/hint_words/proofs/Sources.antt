@@ -35,7 +35,7 @@ from_map f (x ∷ xs) y (suc k, l, e) = let r = from_map f xs y (k, omega arith,
     (r.0, there x r.0 xs r.1, r.2)
 
 -- some seat stored n at the word i
-abbrev IsStored : List (StepBy HintStep) → ℕ → ℕ → Type 0
+abbrev pub IsStored : List (StepBy HintStep) → ℕ → ℕ → Type 0
 IsStored order i n = (q : ℕ) × Contains order (step_by q (Store i n))
 
 abbrev HasSource : List (StepBy HintStep) → HintStep → Type 0
@@ -72,7 +72,7 @@ module _ (es : List (StepBy HintStep)) (i : ℕ) (before : word_after i es ≢ 0
           (before ne)
 
 -- a word that is not 0 has a stored value
-stored_word : (es : List (StepBy HintStep)) (i : ℕ) → word_after i es ≢ 0 → IsStored es i
+pub stored_word : (es : List (StepBy HintStep)) (i : ℕ) → word_after i es ≢ 0 → IsStored es i
     (word_after i es)
 stored_word [] i ne = absurd (ne refl)
 stored_word (e ∷ es) i ne = after_step es i (stored_word es i) e.by e.step ne

@@ -1,7 +1,7 @@
 //! Laws of the definitions that the contracts cite.
 ghost use Rattle.std.specs.Prelude.{◌≡◌, ◌⊎◌, ℕ, List};
 ghost use Rattle.linearization.specs.Orders.{StepBy};
-ghost use Rattle.hint_words.specs.Closings.{ChangesAreWritten};
+ghost use Rattle.hint_words.specs.Closings.{ChangesAreWritten, WordsHaveMoments};
 ghost use Rattle.hint_words.specs.Steps.{word_after, NoneWrites, IsWrittenLast};
 
 use crate::step::HintStep;
@@ -21,4 +21,10 @@ pub fn last_write()
 /// found another value, one of the seats wrote there.
 pub fn changes_are_written()
     ensures { ChangesAreWritten }
+{}
+
+/// Lemma: the steps of words that have ended have moments in one order, in which what a load found
+/// other than 0 was stored before it.
+pub fn words_have_moments()
+    ensures { WordsHaveMoments }
 {}

@@ -10,5 +10,5 @@ mod sizes;
 mod step;
 
 pub use hints::{HintSeat, Hints};
-pub use laws::{changes_are_written, last_write};
+pub use laws::{changes_are_written, last_write, words_have_moments};
 pub use step::HintStep;
