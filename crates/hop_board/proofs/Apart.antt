@@ -7,10 +7,10 @@ use Rattle.board_api.specs.Calls.HeldLanes.{FitsLane}
 use Rattle.board_api.specs.declared.held_lane.LaneId.{LaneId}
 use Rattle.board_api.specs.declared.held_lane.LaneId.TheVariants as id
 use Rattle.hop_board.specs.CacheLines.{AreALineApart, ContendedWordsLieApart, IsContended}
-use Rattle.hop_board.specs.declared.places.TheConstants.{WORDS_PER_LINE}
+use Rattle.hop_board.specs.declared.places.TheConstants.{SLOTS_PER_LANE, WORDS_PER_LINE}
 use Rattle.hop_board.specs.declared.places.Word.{Word}
 use Rattle.hop_board.specs.declared.places.Word.TheVariants as kind
-use Rattle.hop_board.specs.Tables.{slot_at, slot_of, slots, place}
+use Rattle.hop_board.specs.Tables.{all_slots, home_at, home_of, slot_at, slot_of, slots, place}
 use Rattle.hop_board.specs.Tables.{width, IsWord}
 
 module _ (about : BoardSizes) where
@@ -30,6 +30,13 @@ module _ (about : BoardSizes) where
   pub slot_is_at : (x : LaneId) → slot_of about x ≡ slot_at (place about (kind.Lane x))
   slot_is_at (id.Middle l) = omega arith
   slot_is_at (id.Out o) = omega arith
+
+  -- the place of a lane's slot, by that of its word
+  pub home_is_at : (x : LaneId) → home_of about x ≡ home_at (place about (kind.Lane x))
+  home_is_at x = ap (λ k. SLOTS_PER_LANE * k) (slot_is_at x)
+
+  pub home_inside : (x : LaneId) → FitsLane about x → home_of about x < all_slots about
+  home_inside x f = let a = slot_inside x f in omega arith
 
   pub place_inside : (w : Word) → IsWord about w → place about w < width about
   place_inside (kind.Lane (id.Middle l)) f = omega arith

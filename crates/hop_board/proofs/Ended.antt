@@ -31,7 +31,7 @@ use Rattle.board_api.specs.declared.held_lane.LaneId.{LaneId}
 use Rattle.board_api.specs.declared.held_lane.LaneId.TheVariants as id
 use Rattle.board_api.specs.declared.lists.BoardLists.{BoardLists}
 use Rattle.hop_board.specs.Left.{AllLie, LiesIn, lists_left, middle_left, out_left}
-use Rattle.hop_board.specs.Tables.{HasBoard, InSlot, content, slot_of}
+use Rattle.hop_board.specs.Tables.{HasBoard, InSlot, content, home_of}
 use Rattle.hop_board.proofs.Keeps.{holder_of, home_is}
 use Rattle.hop_board.proofs.Taking.{at_or}
 
@@ -117,11 +117,11 @@ module _ (about : BoardSizes) where
         ∙ (ap (lanes.out_holding o) (sym (lanes_own p order)) ∙ out_held_is about ls
         (parts about order lawful).0 o p is))
 
-    item : (x : LaneId) → FitsLane about x → slice_index_or items (slot_of about x) None ≡ Some
+    item : (x : LaneId) → FitsLane about x → slice_index_or items (home_of about x) None ≡ Some
         (content about ls x)
     item x fits =
-        at_or items (slot_of about x) (Some (content about ls x)) None
-        (e.at_home (slot_of about x) (Some (content about ls x))
+        at_or items (home_of about x) (Some (content about ls x)) None
+        (e.at_home (home_of about x) (Some (content about ls x))
         (e.lawfully.homes_are x fits
         ∙ ap some (home_is about x order fits lawful (free_as x (holder_of ls x) fits refl))))
 
@@ -130,8 +130,9 @@ module _ (about : BoardSizes) where
         (counted about ls (parts about order lawful).0 l).2
     all_lie (id.Out o) fits = subst (LiesIn about (id.Out o)) (sym (item (id.Out o) fits)) tt
 
-    middle_is : (l : ℕ) → l < about.lanes → middle_left (slice_index_or items l None) ≡ lane_list
-        about order l
+    middle_is : (l : ℕ) → l < about.lanes
+        → middle_left (slice_index_or items (home_of about (id.Middle l)) None)
+        ≡ lane_list about order l
     middle_is l less =
         let p : ℕ = puller about l in
         let f = facts about ls (parts about order lawful).0 l in
@@ -162,10 +163,11 @@ module _ (about : BoardSizes) where
       parts = e.parts;
       leaves = is
           ∙ (λ i. record {
-            lanes = map-same (λ l. middle_left (slice_index_or items l None))
+            lanes = map-same
+                (λ l. middle_left (slice_index_or items (home_of about (id.Middle l)) None))
                 (lane_list about order) 0 about.lanes
                 (λ l less. middle_is l (omega arith)) i;
-            outs = map-same (λ o. out_left (slice_index_or items (slot_of about (id.Out o)) None))
+            outs = map-same (λ o. out_left (slice_index_or items (home_of about (id.Out o)) None))
                 (out about order) 0 about.outs
                 (λ o less. ap out_left (item (id.Out o) (omega arith))) i;
           });

@@ -38,13 +38,14 @@ use Rattle.board_api.specs.declared.held_lane.LaneId.{LaneId}
 use Rattle.board_api.specs.declared.held_lane.LaneId.TheVariants as id
 use Rattle.hop_board.specs.declared.places.Word.{Word}
 use Rattle.hop_board.specs.declared.places.Word.TheVariants as kind
-use Rattle.hop_board.specs.Tables.{InSlot, slot_of}
-use Rattle.hop_board.specs.Tables.{slots, place, IsWord, content, lane_value}
+use Rattle.hop_board.specs.Tables.{InSlot, all_slots, home_of, slot_of}
+use Rattle.hop_board.specs.Tables.{place, IsWord, content, lane_value}
 use Rattle.hop_board.specs.Tables.{value, home_by, home_after, HomesAre, HasBoard}
 use Rattle.hop_board.specs.Steps.{MayAct, MayGive, released_word}
 use Rattle.hop_board.specs.Plays.{HeldAt, Carried, HoldsThen, EmptiesThen, FillsThen}
 use Rattle.hop_board.specs.Plays.{GivesThen}
-use Rattle.hop_board.proofs.Apart.{same_lane, same_word, slot_inside, slot_is_at, place_inside}
+use Rattle.hop_board.proofs.Apart.{home_inside, home_is_at, same_lane, same_word, slot_inside}
+use Rattle.hop_board.proofs.Apart.{slot_is_at, place_inside}
 
 abbrev Order : Type 0
 Order = List (StepBy BoardStep)
@@ -152,21 +153,21 @@ module _ (about : BoardSizes) where
   -- ---- slots
 
   homes_with : (order : Order) (homes : List (Option InSlot)) (p : ℕ) (x : LaneId) (d : BoardStep)
-      (y : Option InSlot) → FitsLane about x → length homes ≡ slots about
+      (y : Option InSlot) → FitsLane about x → length homes ≡ all_slots about
       → HomesAre about order homes
       → home_after about (step_by p d ∷ order) x ≡ y
       → ((u : LaneId) → FitsLane about u → u ≢ x
       → home_after about (step_by p d ∷ order) u ≡ home_after about order u)
-      → HomesAre about (step_by p d ∷ order) (set homes (slot_of about x) y)
+      → HomesAre about (step_by p d ∷ order) (set homes (home_of about x) y)
   homes_with order homes p x d y inside many are here others u fits =
-      dite (ℕ_discrete (slot_of about u) (slot_of about x))
-      (λ same. let u_is : u ≡ x = same_lane about u x fits inside same in
-      subst (λ (z : LaneId). get_elem? (set homes (slot_of about x) y) (slot_of about z)
+      dite (ℕ_discrete (home_of about u) (home_of about x))
+      (λ same. let u_is : u ≡ x = same_lane about u x fits inside (omega arith) in
+      subst (λ (z : LaneId). get_elem? (set homes (home_of about x) y) (home_of about z)
       ≡ some (home_after about (step_by p d ∷ order) z)) (sym u_is)
-      (set_here homes (slot_of about x) y (let least = slot_inside about x inside in omega arith)
+      (set_here homes (home_of about x) y (let least = home_inside about x inside in omega arith)
       ∙ ap some (sym here)))
-      (λ apart. set_else homes (slot_of about x) (slot_of about u) y apart
-      ∙ (are u fits ∙ ap some (sym (others u fits (λ e. apart (ap (slot_of about) e))))))
+      (λ apart. set_else homes (home_of about x) (home_of about u) y apart
+      ∙ (are u fits ∙ ap some (sym (others u fits (λ e. apart (ap (home_of about) e))))))
 
   -- who has taken a slot by its own steps has it as they say
   pub slot_is : (x : LaneId) (order : Order) (p : ℕ) (s : SlotState) → FitsLane about x
@@ -330,13 +331,13 @@ module _ (about : BoardSizes) where
   -- ---- the steps at slots
 
   module _ (x : LaneId) (n id : ℕ) (me : Seated) (i : ℕ) (at : IsAt about (kind.Lane x) i)
-      (many : n ≡ slots about) where
+      (many : n ≡ all_slots about) where
     -- a step that moves a slot, at the word of its lane
     moves_slot : (goes_so : Step InSlot → ℕ → BoardStep → Carried → Carried → Type 0) (f : ℕ → ℕ)
         (a : ℕ)
         → me.0 ≡ one (number_in me.0) (steps_in me.0)
         → ((order : Order) (words : List ℕ) (homes : List (Option InSlot))
-        → length homes ≡ slots about
+        → length homes ≡ all_slots about
         → number_in me.0 < about.seats → steps_in me.0 ≡ steps_of (number_in me.0) order
         → HasBoard about order words homes
         → let k = slice_index words (place about (kind.Lane x)) in
@@ -378,9 +379,9 @@ module _ (about : BoardSizes) where
         let now : bit_or k 1 ≡ 2 * t + 1 = held_word k t 0 is0 (omega arith) in
         let even : is_odd k ≡ false = even_is k (omega arith) in (
           d,
-          takes (slot_of about x) (Some (content about ls x)),
+          takes (home_of about x) (Some (content about ls x)),
           h.homes_are x at.0 ∙ ap some (home_is x order at.0 h.lawful free),
-          kept order words homes (set homes (slot_of about x) none) p (bit_or k 1)
+          kept order words homes (set homes (home_of about x) none) p (bit_or k 1)
               (kind.Lane x) d few at.0 h
               (held_may x k p order at.0 word free) (now ∙ sym (held_value x k p order))
               (held_others x k p order)
@@ -390,7 +391,7 @@ module _ (about : BoardSizes) where
             (λ e. record {
               found = content about ls x;
               held = held_at x k ls;
-              carries = λ j. (slot_is_at about x j, Some (content about ls x)) ∷ none_carried j;
+              carries = λ j. (home_is_at about x j, Some (content about ls x)) ∷ none_carried j;
             }),
             λ odd. absurd (let z : Rattle.std.proofs.Common.true ≡ false = sym odd ∙ even in cc),
           ),
@@ -415,7 +416,7 @@ module _ (about : BoardSizes) where
         )))
 
     -- the slot that was just taken is emptied and given back
-    pub empties : me.0 ≡ one (number_in me.0) (steps_in me.0) → me.1 ≡ (slot_of about x, None) ∷ []
+    pub empties : me.0 ≡ one (number_in me.0) (steps_in me.0) → me.1 ≡ (home_of about x, None) ∷ []
         → own_state about (slot_of about x) (steps_in me.0) ≡ taken
         → Allows (Ordered about.seats (HasBoard about)) n id me i (λ k. k)
         (Moved EmptiesThen (step n i 0 0 none) me)
@@ -433,7 +434,8 @@ module _ (about : BoardSizes) where
           subst (λ (cs : Carried). HasBoard about (step_by p d ∷ order) (set words at_word k)
               (homes_after homes cs gives))
               (sym carried)
-              (kept order words homes (set homes s (some None)) p k (kind.Lane x) d few at.0 h
+              (kept order words homes (set homes (home_of about x) (some None)) p k (kind.Lane x) d
+              few at.0 h
               (inside, ap (own_state about s) (sym own) ∙ state) word (λ v ne. refl)
               (homes_with order homes p x d (some None) at.0 all h.homes_are
               (ap (λ z. home_by about z (content about (lanes_of order) x))
@@ -460,10 +462,10 @@ module _ (about : BoardSizes) where
         let there : slot_state about s order ≡ empty =
         slot_is x order p empty at.0 h.lawful mine refl in (
           d,
-          takes s None,
+          takes (home_of about x) None,
           h.homes_are x at.0 ∙ ap (λ z. some (home_by about z (content about (lanes_of order) x)))
               there,
-          kept order words homes (set homes s none) p k (kind.Lane x) d few at.0 h
+          kept order words homes (set homes (home_of about x) none) p k (kind.Lane x) d few at.0 h
               (inside, mine) word (λ v ne. refl)
               (homes_with order homes p x d none at.0 all h.homes_are
               (ap (λ z. home_by about z (content about (lanes_of order) x))
@@ -472,7 +474,7 @@ module _ (about : BoardSizes) where
               (state_else x u taken (slot_state about (slot_of about u) order) at.0 fits ne))),
           (
             ap (λ z. LaneIn z) (slot_is_at about x),
-            ap (λ z. (z, None) ∷ me.1) (slot_is_at about x),
+            ap (λ z. (z, None) ∷ me.1) (home_is_at about x),
           ),
         ))
 
@@ -481,7 +483,7 @@ module _ (about : BoardSizes) where
         (z : TableId) (ds : List BoardStep)
         (f : ℕ → ℕ) (a : ℕ) → f ≡ released_word rises
         → me.0 ≡ one (number_in me.0) (LaneIn (slot_of about x) ∷ ds)
-        → me.1 ≡ (slot_of about x, Some c) ∷ []
+        → me.1 ≡ (home_of about x, Some c) ∷ []
         → MayGive about (seat_view z (number_in me.0) ds) x rises c given says
         → Allows (Ordered about.seats (HasBoard about)) n id me i f
         (Moved (GivesThen given says) (step n i a 0 none) me)
@@ -503,7 +505,7 @@ module _ (about : BoardSizes) where
           subst (λ (cs : Carried). HasBoard about (step_by p given ∷ order)
               (set words at_word (f k)) (homes_after homes cs gives))
               (sym carried)
-              (kept order words homes (set homes s (some (Some c))) p (f k)
+              (kept order words homes (set homes (home_of about x) (some (Some c))) p (f k)
               (kind.Lane x) given few at.0 h
               t.0.may here t.0.others
               (homes_with order homes p x given (some (Some c)) at.0 all h.homes_are t.0.home
@@ -540,7 +542,7 @@ module _ (about told : BoardSizes) (told_is : told ≡ about) (fit : FitSizes ab
       (sym seen) may))
 
   module _ (x : LaneId) (within : FitsLane about x) (here : i ≡ place about (kind.Lane x))
-      (many : n ≡ slots about) where
+      (many : n ≡ all_slots about) where
     pub holds_in : (y : LaneId) → y ≡ x → Alone me
         → Allows (Ordered told.seats (HasBoard told)) n id me i (λ k. bit_or k 1)
         (Moved (HoldsThen y) (step n i 1 0 none) me)
@@ -550,7 +552,7 @@ module _ (about told : BoardSizes) (told_is : told ≡ about) (fit : FitSizes ab
         (λ j. (sym told_is j, sym y_is j))
         (holds about x n id me i (within, here) many alone)
 
-    pub empties_in : me.0 ≡ one (number_in me.0) (steps_in me.0) → me.1 ≡ (slot_of about x, None)
+    pub empties_in : me.0 ≡ one (number_in me.0) (steps_in me.0) → me.1 ≡ (home_of about x, None)
         ∷ []
         → own_state about (slot_of about x) (steps_in me.0) ≡ taken
         → Allows (Ordered told.seats (HasBoard told)) n id me i (λ k. k)
@@ -572,7 +574,7 @@ module _ (about told : BoardSizes) (told_is : told ≡ about) (fit : FitSizes ab
     pub gives_in : (rises : Bool) (c : Slot) (given : BoardStep) (says : Type 0)
         (ds : List BoardStep)
         (f : ℕ → ℕ) (a p : ℕ) → f ≡ released_word rises
-        → me.0 ≡ one p (LaneIn (slot_of about x) ∷ ds) → me.1 ≡ (slot_of about x, Some c) ∷ []
+        → me.0 ≡ one p (LaneIn (slot_of about x) ∷ ds) → me.1 ≡ (home_of about x, Some c) ∷ []
         → MayGive about (seat_view z p ds) x rises c given says
         → Allows (Ordered told.seats (HasBoard told)) n id me i f
         (Moved (GivesThen given says) (step n i a 0 none) me)

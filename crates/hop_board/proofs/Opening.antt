@@ -1,9 +1,11 @@
 -- A board before any step has its words and slots.
 use Rattle.std.proofs.Common.{◌≡◌, ℕ, zero, suc, ◌+◌, ◌-◌, ◌*◌, ◌<◌, false, List, [], ◌∷◌, ◌++◌}
 use Rattle.std.proofs.Common.{All}
-use Rattle.std.proofs.Common.{Some, get_or, length, map, sym, refl, ap, ◌∙◌, subst}
+use Rattle.std.proofs.Common.{None, Some, get_or, length, map, replicate, reverse, sym, refl}
+use Rattle.std.proofs.Common.{ap, ◌∙◌, subst}
 use Rattle.std.proofs.Common.{arith, length-append}
-use Rattle.std.proofs.lemmas.List.{get_or_append_left, get_or-append_right}
+use Rattle.std.proofs.lemmas.List.{append_assoc, get_or_append_left, get_or-append_right}
+use Rattle.std.proofs.lemmas.List.{reverse-append}
 use Rattle.std.proofs.lemmas.List.Elements.{All-nil, All-cons, All-head, All-tail}
 use Rattle.std.proofs.lemmas.List.FromFn.{get_or-map-range_with_len, length-map-range_with_len}
 use mathlib.Core.Logic.{dite}
@@ -23,12 +25,12 @@ use Rattle.board_api.specs.Calls.HeldLanes.{FitsLane}
 use Rattle.board_api.specs.Seats.{BoardSeatView}
 use Rattle.board_api.specs.declared.held_lane.LaneId.{LaneId}
 use Rattle.board_api.specs.declared.held_lane.LaneId.TheVariants as id
-use Rattle.hop_board.specs.Made.{head_words, lane_words, line_of, lines_of, new_middle}
-use Rattle.hop_board.specs.Made.{new_middles, new_outs, new_slots, new_words}
+use Rattle.hop_board.specs.Made.{apart_of, head_words, lane_slots, lane_words, line_of, lines_of}
+use Rattle.hop_board.specs.Made.{new_middle, new_middles, new_outs, new_slots, new_words, spaced}
 use Rattle.hop_board.specs.Named.{HasNoSteps, board_seat}
-use Rattle.hop_board.specs.Tables.{HasBoard, HomesAre, InSlot, WordsAre, content, slot_of}
-use Rattle.hop_board.specs.Tables.{lines, slots, width}
-use Rattle.hop_board.specs.declared.places.TheConstants.{WORDS_PER_LINE}
+use Rattle.hop_board.specs.Tables.{HasBoard, HomesAre, InSlot, WordsAre, all_slots, content}
+use Rattle.hop_board.specs.Tables.{home_of, lines, slot_of, slots, width}
+use Rattle.hop_board.specs.declared.places.TheConstants.{SLOTS_PER_LANE, WORDS_PER_LINE}
 use Rattle.hop_board.specs.declared.places.Word.TheVariants as kind
 
 -- ---- lines, and the first words of each
@@ -51,6 +53,39 @@ line_at n (suc count) i less = let a = lines_long n count in
     (λ earlier. let before : i < count = omega arith in
     get_or_append_left (lines_of n count) (line_of n) 0 (WORDS_PER_LINE * i) (omega arith)
     ∙ line_at n count i before)
+
+-- ---- slots with empty ones behind them
+
+spaced_long : (xs : List InSlot) → length (spaced xs) ≡ SLOTS_PER_LANE * length xs
+spaced_long [] = refl
+spaced_long (x ∷ xs) = let a = spaced_long xs in
+    length-append (apart_of x) (spaced xs) ∙ omega arith
+
+spaced_at : (xs : List InSlot) (i : ℕ) (d : InSlot)
+    → get_or (spaced xs) (SLOTS_PER_LANE * i) d ≡ get_or xs i d
+spaced_at [] i d = refl
+spaced_at (x ∷ xs) zero d = refl
+spaced_at (x ∷ xs) (suc i) d =
+    let index : SLOTS_PER_LANE * suc i - SLOTS_PER_LANE ≡ SLOTS_PER_LANE * i = omega arith in
+    get_or-append_right (apart_of x) (spaced xs) SLOTS_PER_LANE (SLOTS_PER_LANE * suc i) d refl
+    (omega arith)
+    ∙ (ap (λ k. get_or (spaced xs) k d) index ∙ spaced_at xs i d)
+
+spaced_append : (xs ys : List InSlot) → spaced (xs ++ ys) ≡ spaced xs ++ spaced ys
+spaced_append [] ys = refl
+spaced_append (x ∷ xs) ys = ap (λ zs. apart_of x ++ zs) (spaced_append xs ys)
+
+-- the last slot, pushed behind those that lie behind it in the end
+pub spaced_back : (xs all now : List InSlot) (x : InSlot)
+    → now ≡ all ++ replicate (SLOTS_PER_LANE - 1) None ++ x ∷ []
+    → spaced xs ++ reverse now ≡ spaced (xs ++ x ∷ []) ++ reverse all
+spaced_back xs all now x is =
+    let empty : List InSlot = replicate (SLOTS_PER_LANE - 1) None in
+    let back : reverse now ≡ apart_of x ++ reverse all = ap reverse is
+    ∙ (reverse-append (all ++ empty) (x ∷ []) ∙ ap (λ l. x ∷ l) (reverse-append all empty)) in
+    ap (λ l. spaced xs ++ l) back
+    ∙ sym (ap (λ l. l ++ reverse all) (spaced_append xs (x ∷ []))
+    ∙ append_assoc (spaced xs) (apart_of x) (reverse all))
 
 module _ (about : BoardSizes) where
   lanes_long : length (lane_words about) ≡ WORDS_PER_LINE * (about.lanes + about.outs)
@@ -121,38 +156,47 @@ module _ (about : BoardSizes) where
   middles_long : length (new_middles about) ≡ about.lanes
   middles_long = length-map-range_with_len (new_middle about) 0 about.lanes
 
-  pub slots_long : length (new_slots about) ≡ slots about
-  slots_long = let a = middles_long in
+  lanes_slots_long : length (lane_slots about) ≡ slots about
+  lanes_slots_long = let a = middles_long in
       let d : InSlot = Some (content about [] (id.Out 0)) in
       let b : length (new_outs about) ≡ about.outs = length-replicate about.outs d in
       length-append (new_middles about) (new_outs about) ∙ omega arith
 
-  first_slot : (x : LaneId) → FitsLane about x
-      → Some (content about [] x) ≡ get_or (new_slots about) (slot_of about x)
+  pub slots_long : length (new_slots about) ≡ all_slots about
+  slots_long = let a = lanes_slots_long in spaced_long (lane_slots about) ∙ omega arith
+
+  lane_slot : (x : LaneId) → FitsLane about x
+      → Some (content about [] x) ≡ get_or (lane_slots about) (slot_of about x)
       (Some (content about [] x))
-  first_slot (id.Middle l) inside =
+  lane_slot (id.Middle l) inside =
       let a = middles_long in let d : InSlot = Some (content about [] (id.Middle l)) in
       sym (get_or_append_left (new_middles about) (new_outs about) d l (omega arith)
       ∙ get_or-map-range_with_len (new_middle about) 0 about.lanes l l d inside (omega arith))
-  first_slot (id.Out o) inside =
+  lane_slot (id.Out o) inside =
       let d : InSlot = Some (content about [] (id.Out o)) in
       let index : about.lanes + o - about.lanes ≡ o = omega arith in
       sym (get_or-append_right (new_middles about) (new_outs about) about.lanes
       (about.lanes + o) d middles_long (omega arith)
       ∙ (ap (λ i. get_or (new_outs about) i d) index ∙ get_or-replicate about.outs o d d inside))
 
-  first_inside : (x : LaneId) → FitsLane about x → slot_of about x < length (new_slots about)
+  first_slot : (x : LaneId) → FitsLane about x
+      → Some (content about [] x) ≡ get_or (new_slots about) (home_of about x)
+      (Some (content about [] x))
+  first_slot x inside = lane_slot x inside
+      ∙ sym (spaced_at (lane_slots about) (slot_of about x) (Some (content about [] x)))
+
+  first_inside : (x : LaneId) → FitsLane about x → home_of about x < length (new_slots about)
   first_inside (id.Middle l) inside = let a = slots_long in omega arith
   first_inside (id.Out o) inside = let a = slots_long in omega arith
 
   first_homes : HomesAre about [] (map some (new_slots about))
   first_homes (id.Middle l) inside = let x = id.Middle l in
-      at_map some (new_slots about) (slot_of about x) (Some (content about [] x))
-      (at_index (new_slots about) (slot_of about x) (Some (content about [] x))
+      at_map some (new_slots about) (home_of about x) (Some (content about [] x))
+      (at_index (new_slots about) (home_of about x) (Some (content about [] x))
       (first_inside x inside) (first_slot x inside))
   first_homes (id.Out o) inside = let x = id.Out o in
-      at_map some (new_slots about) (slot_of about x) (Some (content about [] x))
-      (at_index (new_slots about) (slot_of about x) (Some (content about [] x))
+      at_map some (new_slots about) (home_of about x) (Some (content about [] x))
+      (at_index (new_slots about) (home_of about x) (Some (content about [] x))
       (first_inside x inside) (first_slot x inside))
 
   pub begins : (words : List ℕ) (xs : List InSlot) → words ≡ new_words about → xs ≡ new_slots about

@@ -1,7 +1,8 @@
 -- Lanes that are taken out of their slots one by one.
-use Rattle.std.proofs.Common.{◌≡◌, ◌≢◌, ℕ, zero, suc, ◌+◌, ◌<◌, Bool, false, List, [], ◌∷◌}
-use Rattle.std.proofs.Common.{◌++◌, Some, None, get_or, set, length, slice_index_or, sym, ap, ◌∙◌}
-use Rattle.std.proofs.Common.{subst, arith, length-append, get_or-set_same, get_or-set_other}
+use Rattle.std.proofs.Common.{◌≡◌, ◌≢◌, ℕ, zero, suc, ◌+◌, ◌<◌, Bool, false, List, [], ◌∷◌, inl}
+use Rattle.std.proofs.Common.{inr, ◌++◌, Some, None, get_or, set, length, slice_index_or, sym, ap}
+use Rattle.std.proofs.Common.{◌∙◌, subst, arith, length-append, get_or-set_same, get_or-set_other}
+use Rattle.std.proofs.lemmas.Bool.{cases_lt}
 use Rattle.std.proofs.lemmas.List.{get_or_append_left}
 use Rattle.std.proofs.Math.Seq.{get_or-append_seam}
 use mathlib.Core.Logic.{dite}
@@ -15,7 +16,7 @@ use Rattle.board_api.specs.declared.held_lane.LaneId.TheVariants as id
 use Rattle.hop_board.specs.Left.{AllLie, AreFullFrom, AreSpare, AreTakenFrom, AreTakenTo}
 use Rattle.hop_board.specs.Left.{IsMiddleOf}
 use Rattle.hop_board.specs.Left.{IsOutLane, LiesIn}
-use Rattle.hop_board.specs.Tables.{InSlot, slot_of}
+use Rattle.hop_board.specs.Tables.{InSlot, home_of}
 
 pub at_or : {A : Type 0} (xs : List A) (i : ℕ) (a d : A) → get_elem? xs i ≡ some a
     → get_or xs i d ≡ a
@@ -44,13 +45,14 @@ module _ (about : BoardSizes) where
 
   pub middle_found : (items : List InSlot) (l : ℕ) (found : InSlot) → AllLie about items
       → l < about.lanes
-      → slice_index_or items l None ≡ found → IsMiddleOf about.room found
+      → slice_index_or items (home_of about (id.Middle l)) None ≡ found
+      → IsMiddleOf about.room found
   middle_found items l found all inside is =
       middle_lies l found (subst (LiesIn about (id.Middle l)) is (all (id.Middle l) inside))
 
   pub out_found : (items : List InSlot) (o : ℕ) (found : InSlot) → AllLie about items
       → o < about.outs
-      → slice_index_or items (slot_of about (id.Out o)) None ≡ found → IsOutLane found
+      → slice_index_or items (home_of about (id.Out o)) None ≡ found → IsOutLane found
   out_found items o found all inside is =
       out_lies o found (subst (LiesIn about (id.Out o)) is (all (id.Out o) inside))
 
@@ -64,14 +66,6 @@ module _ (old new : List Bool) (count i : ℕ) (long : length old ≡ count) (in
   else_same : (k : ℕ) → k ≢ i → slice_index_or new k false ≡ slice_index_or old k false
   else_same k ne = ap (λ xs. get_or xs k false) is ∙ get_or-set_other old i k false false ne
 
-  pub taken_to : AreTakenTo i count old → AreTakenTo (i + 1) count new
-  taken_to t = record {
-    taken = λ k less. dite (ℕ_discrete k i)
-        (λ e. subst (λ (z : ℕ). slice_index_or new z false ≡ false) (sym e) now_false)
-        (λ ne. else_same k ne ∙ t.taken k (omega arith));
-    left = λ k from less. else_same k (λ e. absurd (omega arith)) ∙ t.left k (omega arith) less;
-  }
-
   pub full_from : (n : ℕ) → i ≡ n → AreFullFrom n count old → AreFullFrom (n + 1) count new
   full_from n i_is t = λ k from less. else_same k (λ e. absurd (omega arith))
       ∙ t k (omega arith) less
@@ -84,6 +78,27 @@ module _ (old new : List Bool) (count i : ℕ) (long : length old ≡ count) (in
         (λ ne. else_same k ne ∙ t.taken k from (omega arith));
     below = λ k less. else_same k (λ e. absurd (omega arith)) ∙ t.below k less;
   }
+
+-- the values of m slots more were taken
+pub more_taken : (first old new : List Bool) (n k m at : ℕ) → at ≡ n + k
+    → AreTakenFrom n k first old → AreTakenFrom at m old new → AreTakenFrom n (k + m) first new
+more_taken first old new n k m at at_is t s = record {
+  taken = λ j from less. elim (cases_lt j at) [
+    | inl low ↦ s.below j low ∙ t.taken j from (omega arith)
+    | inr high ↦ s.taken j (omega arith) (omega arith)
+  ];
+  below = λ j less. s.below j (omega arith) ∙ t.below j less;
+}
+
+pub taken_to : (n m count : ℕ) (old new : List Bool) → AreTakenTo n count old
+    → AreTakenFrom n m old new → AreFullFrom (n + m) count new → AreTakenTo (n + m) count new
+taken_to n m count old new t s left = record {
+  taken = λ j less. elim (cases_lt j n) [
+    | inl low ↦ s.below j low ∙ t.taken j low
+    | inr high ↦ s.taken j (omega arith) less
+  ];
+  left = left;
+}
 
 -- ---- spare lists
 

@@ -4,7 +4,7 @@ use Rattle.atomic_table.specs.Seated.{TableId}
 use Rattle.steer_base.specs.Journals.{journal}
 use Rattle.hop_rule.specs.Sizes.{FitSizes}
 use Rattle.hop_rule.specs.declared.sizes.BoardSizes.{BoardSizes}
-use Rattle.hop_board.specs.Tables.{slots, width}
+use Rattle.hop_board.specs.Tables.{all_slots, width}
 use Rattle.hop_board.specs.declared.spare.Spare.{Spare}
 
 -- The spare memory is enough for the lists that a board of these sizes leaves.
@@ -21,6 +21,6 @@ pub record IsBoard (told : BoardSizes) (table : TableId) (about : BoardSizes) (s
     : Type 0 where
   pub told_is : told ≡ about
   pub words : table.words ≡ width about
-  pub slots : table.slots ≡ slots about
+  pub slots : table.slots ≡ all_slots about
   pub fit : FitSizes about
   pub room : HasRoom about spare

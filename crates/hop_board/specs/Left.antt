@@ -8,14 +8,13 @@ use Rattle.steer_base.specs.Lanes.{LaneLists}
 use Rattle.backlog.specs.Puts.{put_count}
 use Rattle.history.specs.Lists.{no_lane}
 use Rattle.history.specs.declared.lane_list.LaneList.{LaneList}
-use Rattle.hop_rule.specs.Boards.{out_slot}
 use Rattle.hop_rule.specs.declared.sizes.BoardSizes.{BoardSizes}
 use Rattle.hop_rule.specs.declared.step.Slot.TheVariants as slot
 use Rattle.board_api.specs.Calls.HeldLanes.{FitsLane}
 use Rattle.board_api.specs.declared.held_lane.LaneId.{LaneId}
 use Rattle.board_api.specs.declared.held_lane.LaneId.TheVariants as id
 use Rattle.board_api.specs.declared.lists.BoardLists.{BoardLists}
-use Rattle.hop_board.specs.Tables.{InSlot, slot_of}
+use Rattle.hop_board.specs.Tables.{InSlot, home_of}
 
 -- What is left of a middle lane of which nobody has a packet in hand: each packet that was pulled
 -- was delivered and retired.
@@ -54,17 +53,19 @@ module _ (about : BoardSizes) where
   -- Each lane is in its slot.
   abbrev pub AllLie : List InSlot → Type 0
   AllLie items =
-      (x : LaneId) → FitsLane about x → LiesIn x (slice_index_or items (slot_of about x) None)
+      (x : LaneId) → FitsLane about x → LiesIn x (slice_index_or items (home_of about x) None)
 
   -- What is left of the first n middle lanes.
   abbrev pub middles_left : ℕ → List InSlot → List LaneList
   middles_left n items =
-      map (λ l. middle_left (slice_index_or items l None)) (range_with_len 0 n)
+      map (λ l. middle_left (slice_index_or items (home_of about (id.Middle l)) None))
+      (range_with_len 0 n)
 
   -- What is left of the first n out lanes.
   abbrev pub outs_left : ℕ → List InSlot → List (List ℕ)
   outs_left n items =
-      map (λ o. out_left (slice_index_or items (out_slot about o) None)) (range_with_len 0 n)
+      map (λ o. out_left (slice_index_or items (home_of about (id.Out o)) None))
+      (range_with_len 0 n)
 
   -- The lists of all lanes that the slots of a board leave.
   abbrev pub lists_left : List InSlot → BoardLists

@@ -1,6 +1,6 @@
 -- A board before any step.
-use Rattle.std.specs.Prelude.{ℕ, zero, suc, ◌+◌, ◌*◌, ◌-◌, false, List, [], ◌∷◌, ◌++◌, Some, map}
-use Rattle.std.specs.Prelude.{replicate}
+use Rattle.std.specs.Prelude.{ℕ, zero, suc, ◌+◌, ◌*◌, ◌-◌, false, List, [], ◌∷◌, ◌++◌, None, Some}
+use Rattle.std.specs.Prelude.{map, replicate}
 use Rattle.std.specs.List.{range_with_len}
 use Rattle.steer_base.specs.Sets.{has}
 use Rattle.atomic_table.specs.Seated.{TableId}
@@ -13,7 +13,7 @@ use Rattle.hop_rule.specs.declared.step.Slot.TheVariants as slot
 use Rattle.board_api.specs.Seats.{BoardSeatView}
 use Rattle.hop_board.specs.Named.{board_seat}
 use Rattle.hop_board.specs.Tables.{InSlot}
-use Rattle.hop_board.specs.declared.places.TheConstants.{WORDS_PER_LINE}
+use Rattle.hop_board.specs.declared.places.TheConstants.{SLOTS_PER_LANE, WORDS_PER_LINE}
 
 -- The sizes of a board of this shape, with these settings and this many seats.
 abbrev pub sizes_of : HopShape → List ℕ → ℕ → BoardSizes
@@ -42,6 +42,15 @@ abbrev pub lines_of : ℕ → ℕ → List ℕ
 lines_of n zero = []
 lines_of n (suc count) = lines_of n count ++ line_of n
 
+-- A slot, with empty ones behind it that no call uses.
+abbrev pub apart_of : InSlot → List InSlot
+apart_of x = x ∷ replicate (SLOTS_PER_LANE - 1) None
+
+-- Slots, each with empty ones behind it.
+abbrev pub spaced : List InSlot → List InSlot
+spaced [] = []
+spaced (x ∷ xs) = apart_of x ++ spaced xs
+
 module _ (about : BoardSizes) where
   -- The words of the lanes before any step: each lane is free and without packets.
   abbrev pub lane_words : List ℕ
@@ -69,6 +78,10 @@ module _ (about : BoardSizes) where
   abbrev pub new_outs : List InSlot
   new_outs = replicate about.outs (Some (slot.Out (out_list [] about.room)))
 
+  -- The slots of all lanes before any step.
+  abbrev pub lane_slots : List InSlot
+  lane_slots = new_middles ++ new_outs
+
   -- The slots of a board before any step.
   abbrev pub new_slots : List InSlot
-  new_slots = new_middles ++ new_outs
+  new_slots = spaced lane_slots

@@ -11,7 +11,7 @@ use Rattle.board_api.specs.StepWords.{is_odd}
 use Rattle.board_api.specs.Calls.Results.{MissedAt}
 use Rattle.board_api.specs.declared.held_lane.LaneId.{LaneId}
 use Rattle.board_api.specs.declared.held_lane.LaneId.TheVariants as id
-use Rattle.hop_board.specs.Tables.{InSlot, slot_at}
+use Rattle.hop_board.specs.Tables.{InSlot, home_at, slot_at}
 
 -- The step by which the lane x was taken, with the word and the content that were found.
 abbrev pub HeldAt : LaneId → ℕ → Slot → BoardStep → Type 0
@@ -29,7 +29,7 @@ pub record Takes (x : LaneId) (st : Step InSlot) (n : ℕ) (d : BoardStep) (afte
     : Type 0 where
   pub found : Slot
   pub held : HeldAt x n found d
-  pub carries : after ≡ (slot_at st.word, Some found) ∷ []
+  pub carries : after ≡ (home_at st.word, Some found) ∷ []
 
 -- A hold takes the lane with its slot if the word was even, and nothing if it was odd.
 abbrev pub HoldsThen : LaneId → Step InSlot → ℕ → BoardStep → Carried → Carried → Type 0
@@ -44,7 +44,7 @@ EmptiesThen st n d before after = (d ≡ LaneOut (slot_at st.word)) × (after �
 -- The emptied slot was taken again.
 abbrev pub FillsThen : Step InSlot → ℕ → BoardStep → Carried → Carried → Type 0
 FillsThen st n d before after =
-    (d ≡ LaneIn (slot_at st.word)) × (after ≡ (slot_at st.word, None) ∷ before)
+    (d ≡ LaneIn (slot_at st.word)) × (after ≡ (home_at st.word, None) ∷ before)
 
 -- The slot was given back with its lane, by this step.
 abbrev pub GivesThen : BoardStep → Type 0 → Step InSlot → ℕ → BoardStep → Carried → Carried

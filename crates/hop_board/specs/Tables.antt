@@ -17,7 +17,7 @@ use Rattle.hop_rule.specs.Boards.{empty, slot_state}
 use Rattle.board_api.specs.Calls.HeldLanes.{FitsLane}
 use Rattle.board_api.specs.declared.held_lane.LaneId.{LaneId}
 use Rattle.board_api.specs.declared.held_lane.LaneId.TheVariants as id
-use Rattle.hop_board.specs.declared.places.TheConstants.{WORDS_PER_LINE}
+use Rattle.hop_board.specs.declared.places.TheConstants.{SLOTS_PER_LANE, WORDS_PER_LINE}
 use Rattle.hop_board.specs.declared.places.Word.{Word}
 use Rattle.hop_board.specs.declared.places.Word.TheVariants as kind
 
@@ -28,6 +28,10 @@ InSlot = prelude.Option Slot
 -- The number of the slot of the lane whose word is at this place.
 abbrev pub slot_at : ℕ → ℕ
 slot_at place = place / WORDS_PER_LINE
+
+-- The place in the table of the slot of the lane whose word is at this place.
+abbrev pub home_at : ℕ → ℕ
+home_at place = SLOTS_PER_LANE * slot_at place
 
 module _ (about : BoardSizes) where
   -- ---- the places of the words and the slots: lanes, out lanes, heads, the gate, settings
@@ -40,6 +44,14 @@ module _ (about : BoardSizes) where
   -- The number of slots.
   abbrev pub slots : ℕ
   slots = about.lanes + about.outs
+
+  -- The place of a lane's slot in the table.
+  abbrev pub home_of : LaneId → ℕ
+  home_of x = SLOTS_PER_LANE * slot_of x
+
+  -- The number of slots of the table, with those between that no call uses.
+  abbrev pub all_slots : ℕ
+  all_slots = SLOTS_PER_LANE * slots
 
   -- The number of words that lie a cache line apart.
   abbrev pub lines : ℕ
@@ -106,7 +118,7 @@ module _ (about : BoardSizes) where
   -- Each slot of the table is what the order leaves there.
   abbrev pub HomesAre : List (StepBy BoardStep) → List (Option InSlot) → Type 0
   HomesAre order homes =
-      (x : LaneId) → FitsLane about x → get_elem? homes (slot_of x) ≡ some (home_after order x)
+      (x : LaneId) → FitsLane about x → get_elem? homes (home_of x) ≡ some (home_after order x)
 
   -- The rule of a board: the order is lawful, and each word and each slot is what it leaves there.
   pub record HasBoard (order : List (StepBy BoardStep)) (words : List ℕ)

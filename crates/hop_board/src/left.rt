@@ -1,5 +1,5 @@
 //! The lists that the lanes of a closed board leave, taken out of their slots.
-ghost use Rattle.std.specs.Prelude.{◌≡◌, ℕ, ◌+◌, ◌<◌, ◌≤◌, false, true, [], None, length};
+ghost use Rattle.std.specs.Prelude.{◌≡◌, ℕ, ◌+◌, ◌*◌, ◌<◌, ◌≤◌, false, true, [], None, length};
 ghost use Rattle.std.specs.Prelude.{slice_index_or};
 ghost use Rattle.std.specs.Prelude.{vec_capacity};
 ghost use Rattle.std.specs.Slots.{IsFull, slots_filled, slots_items, slots_len};
@@ -9,8 +9,10 @@ ghost use Rattle.hop_board.specs.Left.{AllLie, AreFullFrom, AreSpare, AreTakenFr
 ghost use Rattle.hop_board.specs.Left.{AreTakenTo, IsMiddleOf, IsOutLane};
 ghost use Rattle.hop_board.specs.Left.{left_of, lists_left, middle_left, middles_left, out_left};
 ghost use Rattle.hop_board.specs.Left.{outs_left};
-ghost use Rattle.hop_board.specs.Tables.{slots};
+ghost use Rattle.hop_board.specs.Tables.{all_slots};
+ghost use Rattle.hop_board.specs.declared.places.TheConstants.{SLOTS_PER_LANE};
 
+use crate::places::SLOTS_PER_LANE;
 use crate::spare::Spare;
 use atomic_table::Closed;
 use backlog::Lane;
@@ -27,7 +29,7 @@ pub fn lists_of(
     spare: Spare,
 ) -> BoardLists
     requires full { IsFull closed.old.slots }
-    requires count { slots_len closed.old.slots ≡ slots sizes.now }
+    requires count { slots_len closed.old.slots ≡ all_slots sizes.now }
     requires lie { AllLie sizes.now (slots_items closed.old.slots) }
     requires room { HasRoom sizes.now spare }
     ensures lists { result ≡ lists_left sizes.now (slots_items closed.old.slots) }
@@ -97,7 +99,7 @@ fn middle_lists(
     mut lists: Vec<LaneList>,
 ) -> Vec<LaneList>
     requires full { IsFull closed.old.slots }
-    requires count { slots_len closed.old.slots ≡ slots sizes.now }
+    requires count { slots_len closed.old.slots ≡ all_slots sizes.now }
     requires lie { AllLie sizes.now (slots_items closed.old.slots) }
     requires accepted { AreSpare sizes.now.lanes sizes.now.room accepted.items }
     requires drops { AreSpare sizes.now.lanes sizes.now.room drops.items }
@@ -107,11 +109,11 @@ fn middle_lists(
         (slots_items closed.old.slots) }
     ensures same { slots_items closed.new.slots ≡ slots_items closed.old.slots }
     ensures count { slots_len closed.new.slots ≡ slots_len closed.old.slots }
-    ensures taken { AreTakenTo sizes.now.lanes (slots_len closed.new.slots)
+    ensures taken { AreTakenTo (SLOTS_PER_LANE * sizes.now.lanes) (slots_len closed.new.slots)
         (slots_filled closed.new.slots) }
 {
     for lane in 0..sizes.lanes {
-        let found = closed.take(lane as usize);
+        let found = take_lane(closed, lane as usize);
         let (Some(packets), Some(fallen)) = (accepted.pop(), drops.pop()) else {
             unreachable!()
         };
@@ -143,8 +145,8 @@ fn out_lists(
     sizes: &BoardSizes,
     mut lists: Vec<List<PacketId>>,
 ) -> Vec<List<PacketId>>
-    requires count { slots_len closed.old.slots ≡ slots sizes.now }
-    requires full { AreFullFrom sizes.now.lanes (slots_len closed.old.slots)
+    requires count { slots_len closed.old.slots ≡ all_slots sizes.now }
+    requires full { AreFullFrom (SLOTS_PER_LANE * sizes.now.lanes) (slots_len closed.old.slots)
         (slots_filled closed.old.slots) }
     requires lie { AllLie sizes.now (slots_items closed.old.slots) }
     requires none { lists.items ≡ [] }
@@ -152,14 +154,37 @@ fn out_lists(
     ensures lists { result.items ≡ outs_left sizes.now sizes.now.outs
         (slots_items closed.old.slots) }
     ensures count { slots_len closed.new.slots ≡ slots_len closed.old.slots }
-    ensures taken { AreTakenFrom sizes.now.lanes sizes.now.outs
+    ensures taken { AreTakenFrom (SLOTS_PER_LANE * sizes.now.lanes)
+        (SLOTS_PER_LANE * sizes.now.outs)
         (slots_filled closed.old.slots) (slots_filled closed.new.slots) }
 {
     for out in 0..sizes.outs {
-        let found = closed.take(sizes.lanes as usize + out as usize);
+        let found = take_lane(closed, sizes.lanes as usize + out as usize);
         lists.push_reserved(out_list(found));
     }
     lists
+}
+
+// The lane in the slot with this number, taken out of it; the empty slots behind it are taken, too.
+fn take_lane(closed: &mut Closed<Option<Slot>, Global>, number: usize) -> Option<Slot>
+    requires inside { SLOTS_PER_LANE * number + SLOTS_PER_LANE ≤ slots_len closed.old.slots }
+    requires full { AreFullFrom (SLOTS_PER_LANE * number) (slots_len closed.old.slots)
+        (slots_filled closed.old.slots) }
+    ensures lane { slice_index_or (slots_items closed.old.slots) (SLOTS_PER_LANE * number) None
+        ≡ result }
+    ensures same { slots_items closed.new.slots ≡ slots_items closed.old.slots }
+    ensures count { slots_len closed.new.slots ≡ slots_len closed.old.slots }
+    ensures left { AreFullFrom (SLOTS_PER_LANE * number + SLOTS_PER_LANE)
+        (slots_len closed.new.slots) (slots_filled closed.new.slots) }
+    ensures taken { AreTakenFrom (SLOTS_PER_LANE * number) SLOTS_PER_LANE
+        (slots_filled closed.old.slots) (slots_filled closed.new.slots) }
+{
+    let first = SLOTS_PER_LANE * number;
+    let found = closed.take(first);
+    for n in 1..SLOTS_PER_LANE {
+        drop(closed.take(first + n));
+    }
+    found
 }
 
 fn out_list(found: Option<Slot>) -> List<PacketId>

@@ -1,13 +1,14 @@
 //! Making a board.
-ghost use Rattle.std.specs.Prelude.{◌≡◌, ◌<◌, ◌≤◌, ◌^◌, ◌++◌, false, All, IfOk, OnOk, map};
+ghost use Rattle.std.specs.Prelude.{◌≡◌, ◌<◌, ◌≤◌, ◌^◌, ◌++◌, false, All, IfOk, None, OnOk, map};
+ghost use Rattle.std.specs.Prelude.{replicate};
 ghost use Rattle.std.specs.Vec.{vec_len};
 ghost use Rattle.hop_rule.specs.declared.sizes.TheConstants.{MAX_BOARD_ROOM};
-ghost use Rattle.hop_board.specs.Made.{lines_of, new_board_seats, new_middles, new_slots};
-ghost use Rattle.hop_board.specs.Made.{new_words, sizes_of};
+ghost use Rattle.hop_board.specs.Made.{lane_slots, lines_of, new_board_seats, new_middles};
+ghost use Rattle.hop_board.specs.Made.{new_words, sizes_of, spaced};
 ghost use Rattle.hop_board.specs.Named.{HasNoSteps, board_seat};
 
 use crate::board::{Board, WordSeat};
-use crate::places::WORDS_PER_LINE;
+use crate::places::{SLOTS_PER_LANE, WORDS_PER_LINE};
 use crate::spare::Spare;
 use atomic_table::Table;
 use backlog::Lane;
@@ -39,7 +40,8 @@ impl Board {
     {
         let sizes = copy_sizes(alloc, shape, settings, seats)?;
         let words = first_words(alloc, &sizes)?;
-        let slots = first_slots(alloc, &sizes)?;
+        let lanes = first_slots(alloc, &sizes)?;
+        let slots = spaced(alloc, lanes)?;
         let spare = Spare::make(alloc, &sizes)?;
         let (table, main) = match Table::new(alloc, &words, slots, &sizes) {
             Ok(made) => made,
@@ -116,12 +118,12 @@ fn push_lines(words: &mut Vec<u64>, value: u64, count: usize) -> Result<(), OutO
     Ok(())
 }
 
-// The slots before any step.
+// The slots of the lanes before any step.
 fn first_slots(alloc: Global, sizes: &BoardSizes) -> Result<Vec<Option<Slot>>, OutOfMemory>
     requires limit { 1 ≤ sizes.now.limit }
     requires room { sizes.now.room ≤ MAX_BOARD_ROOM }
     requires lanes { sizes.now.lanes ≤ 32 }
-    ensures { IfOk result (λ slots. slots.items ≡ new_slots sizes.now) }
+    ensures { IfOk result (λ slots. slots.items ≡ lane_slots sizes.now) }
 {
     let mut slots = middle_slots(alloc, sizes)?;
     for _ in 0..sizes.outs {
@@ -145,6 +147,29 @@ fn middle_slots(alloc: Global, sizes: &BoardSizes) -> Result<Vec<Option<Slot>>, 
         slots.push(Some(Slot::Middle(middle)))?;
     }
     Ok(slots)
+}
+
+// These slots, each with empty ones behind it that no call uses, so that they lie apart.
+fn spaced(alloc: Global, mut slots: Vec<Option<Slot>>) -> Result<Vec<Option<Slot>>, OutOfMemory>
+    ensures { IfOk result (λ all. all.items ≡ spaced slots.items) }
+{
+    let mut all = Vec::new(alloc);
+    while let Some(slot) = slots.pop() {
+        push_empty(&mut all, SLOTS_PER_LANE - 1)?;
+        all.push(slot)?;
+    }
+    all.reverse();
+    Ok(all)
+}
+
+// So many empty slots more.
+fn push_empty(slots: &mut Vec<Option<Slot>>, count: usize) -> Result<(), OutOfMemory>
+    ensures { OnOk result (slots.new.items ≡ slots.old.items ++ replicate count None) }
+{
+    for _ in 0..count {
+        slots.push(None)?;
+    }
+    Ok(())
 }
 
 // Seats that have made no step, with what they keep besides.

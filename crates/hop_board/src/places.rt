@@ -1,13 +1,17 @@
 //! The places of the words and slots of a board in its table.
 ghost use Rattle.std.specs.Prelude.{◌≡◌};
 ghost use Rattle.hop_rule.specs.Sizes.{FitSizes};
-ghost use Rattle.hop_board.specs.Tables.{place, slot_of};
+ghost use Rattle.hop_board.specs.Tables.{home_of, place, slot_of};
 
 use crate::board::Board;
 use board_api::LaneId;
 
 /// The words of a cache line: a line of x86-64 has 64 bytes, a word 8.
 pub const WORDS_PER_LINE: usize = 8;
+
+/// The slots of the table for each lane, of which the first is used: a slot has 48 bytes, so those
+/// of different lanes share no cache line.
+pub const SLOTS_PER_LANE: usize = 4;
 
 /// A word of a board.
 #[derive(Clone, Copy)]
@@ -53,6 +57,16 @@ impl Board {
         match lane {
             LaneId::Middle(lane) => lane as usize,
             LaneId::Out(out) => self.sizes.lanes as usize + out as usize,
+        }
+    }
+
+    // The place of a lane's slot in the table.
+    pub(crate) fn home_of(&self, lane: LaneId) -> usize
+        ensures { result ≡ home_of self.now.sizes lane }
+    {
+        match lane {
+            LaneId::Middle(lane) => SLOTS_PER_LANE * lane as usize,
+            LaneId::Out(out) => SLOTS_PER_LANE * (self.sizes.lanes as usize + out as usize),
         }
     }
 }

@@ -34,7 +34,7 @@ impl Board {
         ensures { MatchResult result (λ found. TookSlot self.now.sizes lane seat.old seat.new found)
             (λ word. MissedSlot lane seat.old seat.new word) }
     {
-        let slot = self.slot_of(lane);
+        let slot = self.home_of(lane);
         let place = self.place(Word::Lane(lane));
         let shared = &self.table.shared;
         let word = shared.fetch_or::<Moves<Holds<J>>>(&mut seat.seat, place, 1);
@@ -46,7 +46,9 @@ impl Board {
         Ok(found.unwrap())
     }
 
-    // Moves a lane into its slot and releases it.
+    // Moves a lane into its slot and releases it. It is inlined, so that the lane goes into its
+    // slot without a copy on the way.
+    #[inline(always)]
     pub(crate) fn give(&self, seat: &mut WordSeat, release: Release, lane: Slot)
         requires table { seat.old.table ≡ self.now.table }
         requires within { FitsLane self.now.sizes (released_lane release) }
@@ -65,6 +67,7 @@ impl Board {
     }
 
     // The lane's word becomes one more if its tail rises, otherwise one less.
+    #[inline(always)]
     fn give_as<J: Given>(&self, seat: &mut WordSeat, release: Release, lane: Slot)
         requires table { seat.old.table ≡ self.now.table }
         requires within { FitsLane self.now.sizes (released_lane release) }
@@ -80,7 +83,7 @@ impl Board {
         ensures says { J.says }
     {
         let id = release.lane();
-        let slot = self.slot_of(id);
+        let slot = self.home_of(id);
         let place = self.place(Word::Lane(id));
         let shared = &self.table.shared;
         shared.load::<Moves<Fills>>(&mut seat.seat, place);

@@ -1,11 +1,12 @@
-use Rattle.std.proofs.Common.{◌≡◌, ◌+◌, ◌-◌, ℕ, [], ◌∷◌, ◌++◌, None, length, slice_index_or, sym}
-use Rattle.std.proofs.Common.{ap, ◌∙◌, subst, arith}
+use Rattle.std.proofs.Common.{◌≡◌, ◌+◌, ◌-◌, ◌*◌, ℕ, [], ◌∷◌, ◌++◌, None, length, slice_index_or}
+use Rattle.std.proofs.Common.{sym, ap, ◌∙◌, subst, arith}
 use Rattle.std.specs.Option.{option_to_list}
-use Rattle.std.specs.Slots.{slots_counts, slots_filled, slots_items, slots_len}
+use Rattle.std.specs.Slots.{slots_filled, slots_items, slots_len}
 use Rattle.std.specs.Vec.{vec_len}
 use Rattle.std.proofs.lemmas.List.FromFn.{length-map-range_with_len, map-range_with_len_more}
 use Rattle.hop_board.specs.Left.{AreSpare, AreTakenTo, IsMiddleOf, middle_left}
-use Rattle.hop_board.proofs.Taking.{found_is, middle_found, popped_is, popped_left, taken_to}
+use Rattle.hop_board.specs.declared.places.TheConstants.{SLOTS_PER_LANE}
+use Rattle.hop_board.proofs.Taking.{middle_found, popped_is, popped_left, taken_to}
 use Rattle.hop_board.proofs.left.middle_lists.Goals as goal
 
 pub middle_list-requires-clause-lane : goal.middle_list-requires-clause-lane
@@ -16,15 +17,15 @@ middle_list-requires-clause-lane c =
     let items = slots_items c.args.closed.now.slots in
     let less = c.loop-lane-test.true in
     let n : about.lanes - lane ≡ about.lanes - (lane + 1) + 1 = omega arith in
-    let found = found_is items (slots_items c.loop-lane.closed.slots) lane c.take-found.result
-    inv.same c.take-found.ensures.value in
+    let found = ap (λ xs. slice_index_or xs (SLOTS_PER_LANE * lane) None) (sym inv.same)
+    ∙ c.take_lane-found.ensures.lane in
     let taken = c.pop.ensures.items ∙ ap (λ r. c.pop.new.self.items
     ++ option_to_list r) c.in-Some-Some.is-0 in
     let spare = popped_is c.loop-lane.accepted.items c.pop.new.self.items c.in-Some-Some.packets
     (about.lanes - (lane + 1)) about.room taken
     (subst (λ (k : ℕ). AreSpare k about.room c.loop-lane.accepted.items) n inv.accepted) in
-    subst (λ (k : ℕ). IsMiddleOf k c.take-found.result) (sym (ap (λ j. j.room) spare))
-    (middle_found about items lane c.take-found.result c.requires.lie less found)
+    subst (λ (k : ℕ). IsMiddleOf k c.take_lane-found.result) (sym (ap (λ j. j.room) spare))
+    (middle_found about items lane c.take_lane-found.result c.requires.lie less found)
 
 pub middle_list-requires-clause-packets : goal.middle_list-requires-clause-packets
 middle_list-requires-clause-packets c =
@@ -82,8 +83,8 @@ push_reserved-requires c =
     let long : vec_len c.loop-lane.lists ≡ c.loop-lane.lane =
     c.loop-lane.lists.ok.0
     ∙ (ap (λ l. length l) inv.lists
-    ∙ length-map-range_with_len (λ l. middle_left (slice_index_or items l None)) 0 c.loop-lane.lane)
-    in
+    ∙ length-map-range_with_len
+    (λ l. middle_left (slice_index_or items (SLOTS_PER_LANE * l) None)) 0 c.loop-lane.lane) in
     omega arith
 
 pub loop-lane-preserved : goal.loop-lane-preserved
@@ -94,13 +95,15 @@ loop-lane-preserved c =
     let items = slots_items c.args.closed.now.slots in
     let less = c.loop-lane-test.true in
     let n : about.lanes - lane ≡ about.lanes - (lane + 1) + 1 = omega arith in
-    let found = found_is items (slots_items c.loop-lane.closed.slots) lane c.take-found.result
-    inv.same c.take-found.ensures.value in
+    let found = ap (λ xs. slice_index_or xs (SLOTS_PER_LANE * lane) None) (sym inv.same)
+    ∙ c.take_lane-found.ensures.lane in
     let taken = c.pop.ensures.items ∙ ap (λ r. c.pop.new.self.items
     ++ option_to_list r) c.in-Some-Some.is-0 in
     let other = c.pop-in-loop-lane.ensures.items ∙ ap (λ r. c.pop-in-loop-lane.new.self.items
     ++ option_to_list r) c.in-Some-Some.is-1 in
-    let others = c.take-found.ensures.others in
+    let others = c.take_lane-found.ensures in
+    let now = slots_filled c.take_lane-found.new.closed.slots in
+    let next : SLOTS_PER_LANE * lane + SLOTS_PER_LANE ≡ SLOTS_PER_LANE * (lane + 1) = omega arith in
     let capacity = c.push_reserved.ensures.capacity in
     let room = inv.room in
     let count = inv.count in
@@ -108,16 +111,18 @@ loop-lane-preserved c =
     record {
       lists = c.push_reserved.ensures.items
           ∙ ((λ i. inv.lists i ++ (c.middle_list.ensures ∙ ap middle_left (sym found)) i ∷ [])
-          ∙ sym (map-range_with_len_more (λ l. middle_left (slice_index_or items l None)) 0 lane
-          lane (omega arith)));
+          ∙ sym (map-range_with_len_more
+          (λ l. middle_left (slice_index_or items (SLOTS_PER_LANE * l) None)) 0 lane lane
+          (omega arith)));
       room = omega arith;
-      same = others.0 ∙ inv.same;
-      count = others.2 ∙ inv.count;
-      taken = subst (λ (k : ℕ). AreTakenTo (lane + 1) k (slots_filled c.take-found.new.self.slots))
-          (sym others.2)
-          (taken_to (slots_filled c.loop-lane.closed.slots)
-          (slots_filled c.take-found.new.self.slots) (slots_len c.loop-lane.closed.slots)
-          lane (sym (slots_counts c.loop-lane.closed.slots).1) (omega arith) others.1 inv.taken);
+      same = others.same ∙ inv.same;
+      count = others.count ∙ inv.count;
+      taken = subst (λ (k : ℕ). AreTakenTo k (slots_len c.take_lane-found.new.closed.slots) now)
+          next (taken_to (SLOTS_PER_LANE * lane) SLOTS_PER_LANE
+          (slots_len c.take_lane-found.new.closed.slots) (slots_filled c.loop-lane.closed.slots) now
+          (subst (λ (k : ℕ). AreTakenTo (SLOTS_PER_LANE * lane) k
+          (slots_filled c.loop-lane.closed.slots)) (sym others.count) inv.taken)
+          others.taken others.left);
       accepted = popped_left c.loop-lane.accepted.items c.pop.new.self.items c.in-Some-Some.packets
           (about.lanes - (lane + 1)) about.room taken
           (subst (λ (k : ℕ). AreSpare k about.room c.loop-lane.accepted.items) n inv.accepted);

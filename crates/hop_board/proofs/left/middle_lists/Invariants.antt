@@ -1,6 +1,7 @@
-use Rattle.std.proofs.Common.{◌≡◌, ◌-◌, ◌≤◌, vec_capacity}
+use Rattle.std.proofs.Common.{◌≡◌, ◌-◌, ◌*◌, ◌≤◌, vec_capacity}
 use Rattle.std.specs.Slots.{slots_filled, slots_items, slots_len}
 use Rattle.hop_board.specs.Left.{AreSpare, AreTakenTo, middles_left}
+use Rattle.hop_board.specs.declared.places.TheConstants.{SLOTS_PER_LANE}
 use Rattle.hop_board.proofs.left.middle_lists.Given as goal
 
 abbrev pub invariant-loop-lane : goal.invariant-loop-lane
@@ -9,7 +10,8 @@ invariant-loop-lane l = record {
   room : l.sizes.lanes ≤ vec_capacity l.lists;
   same : slots_items l.closed.slots ≡ slots_items l.initial.closed.slots;
   count : slots_len l.closed.slots ≡ slots_len l.initial.closed.slots;
-  taken : AreTakenTo l.lane (slots_len l.closed.slots) (slots_filled l.closed.slots);
+  taken : AreTakenTo (SLOTS_PER_LANE * l.lane) (slots_len l.closed.slots)
+      (slots_filled l.closed.slots);
   accepted : AreSpare (l.sizes.lanes - l.lane) l.sizes.room l.accepted.items;
   drops : AreSpare (l.sizes.lanes - l.lane) l.sizes.room l.drops.items;
 }

@@ -1,6 +1,7 @@
-use Rattle.std.proofs.Common.{◌≡◌, ◌+◌, ◌≤◌, vec_capacity}
+use Rattle.std.proofs.Common.{◌≡◌, ◌+◌, ◌*◌, ◌≤◌, vec_capacity}
 use Rattle.std.specs.Slots.{slots_filled, slots_items, slots_len}
 use Rattle.hop_board.specs.Left.{AreFullFrom, AreTakenFrom, outs_left}
+use Rattle.hop_board.specs.declared.places.TheConstants.{SLOTS_PER_LANE}
 use Rattle.hop_board.proofs.left.out_lists.Given as goal
 
 abbrev pub invariant-loop-out : goal.invariant-loop-out
@@ -9,8 +10,8 @@ invariant-loop-out l = record {
   room : l.sizes.outs ≤ vec_capacity l.lists;
   same : slots_items l.closed.slots ≡ slots_items l.initial.closed.slots;
   count : slots_len l.closed.slots ≡ slots_len l.initial.closed.slots;
-  left : AreFullFrom (l.sizes.lanes + l.out) (slots_len l.closed.slots)
+  left : AreFullFrom (SLOTS_PER_LANE * (l.sizes.lanes + l.out)) (slots_len l.closed.slots)
       (slots_filled l.closed.slots);
-  taken : AreTakenFrom l.sizes.lanes l.out (slots_filled l.initial.closed.slots)
-      (slots_filled l.closed.slots);
+  taken : AreTakenFrom (SLOTS_PER_LANE * l.sizes.lanes) (SLOTS_PER_LANE * l.out)
+      (slots_filled l.initial.closed.slots) (slots_filled l.closed.slots);
 }

@@ -3,6 +3,7 @@ use Rattle.linearization.specs.Seats.{SeatView}
 use Rattle.hop_rule.specs.declared.sizes.BoardSizes.{BoardSizes}
 use Rattle.hop_rule.specs.declared.step.BoardStep.{BoardStep}
 use Rattle.board_api.specs.Seats.{BoardSeatView}
+use Rattle.hop_board.specs.Made.{spaced}
 use Rattle.hop_board.specs.Named.{HasNoSteps}
 use Rattle.hop_board.specs.Tables.{InSlot}
 use Rattle.hop_board.proofs.Opening.{begins, new_fresh, slots_long, tables_at_board, words_long}
@@ -11,7 +12,8 @@ use Rattle.hop_board.proofs.board.Board.make.Goals as goal
 pub new-requires : goal.new-requires
 new-requires c =
     begins c.in_ok-sizes.sizes c.deref.result.now c.in_ok-slots.slots.items
-    (c.deref.ensures.value ∙ c.in_ok-words.ensures) c.in_ok-slots.ensures
+    (c.deref.ensures.value ∙ c.in_ok-words.ensures)
+    (c.in_ok-slots.ensures ∙ ap spaced c.in_ok-lanes.ensures)
 
 pub at_board-requires : goal.at_board-requires
 at_board-requires c =
@@ -34,7 +36,8 @@ invariant_of-result c =
       told_is = made.5;
       words = made.0 ∙ (ap (λ xs. length xs) (c.deref.ensures.value ∙ c.in_ok-words.ensures)
           ∙ words_long about);
-      slots = made.1 ∙ (ap (λ (xs : List InSlot). length xs) c.in_ok-slots.ensures
+      slots = made.1 ∙ (ap (λ (xs : List InSlot). length xs)
+          (c.in_ok-slots.ensures ∙ ap spaced c.in_ok-lanes.ensures)
           ∙ slots_long about);
       fit = record {
         room = omega arith;

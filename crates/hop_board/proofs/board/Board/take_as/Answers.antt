@@ -7,9 +7,9 @@ use Rattle.hop_rule.specs.Sizes.{FitSizes}
 use Rattle.board_api.specs.StepWords.{is_odd}
 use Rattle.board_api.specs.Views.{BoardView}
 use Rattle.hop_board.specs.Plays.{HeldAt}
-use Rattle.hop_board.specs.Tables.{slots, slot_at, slot_of, width}
+use Rattle.hop_board.specs.Tables.{all_slots, home_at, home_of, slot_of, width}
 use Rattle.hop_board.specs.declared.places.Word.TheVariants as kind
-use Rattle.hop_board.proofs.Apart.{place_inside, slot_is_at}
+use Rattle.hop_board.proofs.Apart.{home_is_at, place_inside}
 use Rattle.hop_board.proofs.Keeps.{holds_in, empties_in, even_is, held_state}
 use Rattle.hop_board.proofs.board.Board.take_as.Goals as goal
 
@@ -30,7 +30,7 @@ fetch_or-word-requires g c =
           (subst FitSizes sizes board.fit) c.args.seat.now seat.table_id shared.table_id.slots
           seat.id seat.me
           c.seat.view_is c.place-place.result c.args.lane c.requires.within here
-          (board.slots ∙ ap slots sizes)
+          (board.slots ∙ ap all_slots sizes)
           g.J.Taken.lane c.requires.lane c.seat.invariant,
     )
 
@@ -42,9 +42,9 @@ exchange-found-requires g c =
     even_is c.self.inside.sizes c.fetch_or-word.result (omega arith) in
     let t = e.2.as_told.0 even in
     let about = c.args.self.now.sizes in
-    let slot_is : slot_at c.place-place.result ≡ c.slot_of-slot.result =
-    ap slot_at c.place-place.ensures ∙ (sym (slot_is_at about c.args.lane)
-    ∙ sym c.slot_of-slot.ensures) in (
+    let slot_is : home_at c.place-place.result ≡ c.home_of-slot.result =
+    ap home_at c.place-place.ensures ∙ (sym (home_is_at about c.args.lane)
+    ∙ sym c.home_of-slot.ensures) in (
       e.0 ∙ (ap (λ s. s.table) c.seat.view_is
           ∙ (c.requires.table ∙ sym (ap (λ (h : BoardView). h.table) c.self.view_is))),
       (
@@ -72,8 +72,8 @@ load-requires g c =
     let p = number_in c.seat.inside.seat.me.0 in
     let ds = steps_in c.seat.inside.seat.me.0 in
     let me_is : seat.me.0 ≡ one p (e.2.added ∷ ds) = ap (λ m. m.0) x.3 ∙ e.2.adds in
-    let carried : seat.me.1 ≡ (slot_of about c.args.lane, None) ∷ [] =
-    ap (λ m. m.1) x.3 ∙ (λ j. (c.slot_of-slot.ensures j, None) ∷ rest (t.carries j)) in (
+    let carried : seat.me.1 ≡ (home_of about c.args.lane, None) ∷ [] =
+    ap (λ m. m.1) x.3 ∙ (λ j. (c.home_of-slot.ensures j, None) ∷ rest (t.carries j)) in (
       x.0 ∙ (e.0 ∙ (ap (λ s. s.table) c.seat.view_is
           ∙ (c.requires.table ∙ sym (ap (λ (h : BoardView). h.table) c.self.view_is)))),
       omega arith,
@@ -81,7 +81,7 @@ load-requires g c =
           (seat_view seat.table_id (number_in seat.me.0) (steps_in seat.me.0)) seat.table_id
           shared.table_id.slots seat.id seat.me
           refl
-          c.place-place.result c.args.lane c.requires.within here (board.slots ∙ ap slots sizes)
+          c.place-place.result c.args.lane c.requires.within here (board.slots ∙ ap all_slots sizes)
           (me_is ∙ sym (λ j. one (number_in (me_is j)) (steps_in (me_is j)))) carried
           (ap (λ v. own_state about (slot_of about c.args.lane) (steps_in v)) me_is
           ∙ held_state about c.args.lane c.fetch_or-word.result t.found e.2.added ds

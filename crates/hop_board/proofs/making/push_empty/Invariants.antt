@@ -1,0 +1,5 @@
+use Rattle.std.proofs.Common.{◌≡◌, ◌++◌, None, replicate}
+use Rattle.hop_board.proofs.making.push_empty.Given as goal
+
+abbrev pub invariant-loop : goal.invariant-loop
+invariant-loop l = l.slots.items ≡ l.initial.slots.items ++ replicate l.counter None
