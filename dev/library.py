@@ -15,6 +15,7 @@ USUAL = {
 
 LIBRARY = {
     "All": "All P xs: P holds of each item of xs",
+    "Contains": "Contains xs x: x is one of the items of xs",
     "Data": "a JSON value: null, a truth value, a number, a string, an array or an object",
     "IfSome": "IfSome o P: if o is Some x, then P x",
     "IsSome": "an option is Some of something",

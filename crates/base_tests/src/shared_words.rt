@@ -24,17 +24,19 @@ fn the_kinds_of_words_follow_one_another(rt: HostRuntime) {
         HintWord::Filter(0).number(),
         HintWord::Done.number(),
         HintWord::Queue(PacketId(0)).number(),
+        HintWord::Steered(PacketId(0)).number(),
     ];
-    assert!(rt; first == [0u32, 65_536, 65_664, 65_696, 69_792, 69_793]);
+    assert!(rt; first == [0u32, 65_536, 65_664, 65_696, 69_792, 69_793, 69_794]);
     let last = [
         HintWord::Socket(65_535).number(),
         HintWord::Redirection(127).number(),
         HintWord::Stand(AppId(31)).number(),
         HintWord::Filter(4_095).number(),
         HintWord::Queue(PacketId(262_143)).number(),
+        HintWord::Steered(PacketId(262_143)).number(),
     ];
-    assert!(rt; last == [65_535u32, 65_663, 65_695, 69_791, 331_936]);
-    assert!(rt; word_count(262_144) == 331_937);
+    assert!(rt; last == [65_535u32, 65_663, 65_695, 69_791, 594_079, 594_080]);
+    assert!(rt; word_count(262_144) == 594_081);
 }
 
 #[test]

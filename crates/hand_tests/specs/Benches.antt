@@ -1,5 +1,5 @@
 -- The seats of a test board between calls: two workers, a visitor and a closer.
-use Rattle.std.specs.Prelude.{◌≡◌, ◌≤◌, ◌<◌, ◌+◌, ℕ, Bool, false, None, [], length}
+use Rattle.std.specs.Prelude.{◌≡◌, ◌≤◌, ◌<◌, ℕ, Bool, false, None, [], length}
 use Rattle.linearization.specs.Seats.{SeatView}
 use Rattle.hint_words.specs.declared.step.HintStep.{HintStep}
 use Rattle.hop_rule.specs.Boards.{gate_steps, lane_steps}
@@ -9,7 +9,7 @@ use Rattle.hop_rule.specs.declared.sizes.BoardSizes.{BoardSizes}
 use Rattle.board_api.specs.Calls.Rights.{HasOpen, IsOutside}
 use Rattle.board_api.specs.Seats.{BoardSeatView}
 use Rattle.board_api.specs.Views.{BoardView}
-use Rattle.run_words.specs.declared.hint_word.TheConstants.{FILTER_WORDS}
+use Rattle.run_words.specs.Numbers.{word_count}
 use Rattle.run_workers.specs.Hands.Deltas.{no_lane, this_lane}
 use Rattle.run_workers.specs.Hands.Drains.{IsDrain}
 use Rattle.run_workers.specs.Hands.Pollers.{IsPoller}
@@ -50,7 +50,7 @@ opened_by seat = openings (gate_steps seat.steps)
 
 -- A receive board of two lanes, two inboxes and four seats, for two receive queues.
 pub record IsBench (about : BoardSizes) (shared : Shared) : Type 0 where
-  pub words : FILTER_WORDS + shared.filters ≤ shared.hints.words
+  pub words : word_count about.room ≤ shared.hints.words
   pub filters : shared.filters ≡ 8
   pub queues : length shared.given.homes ≡ 2
   pub settings : length about.settings ≡ 6

@@ -5,7 +5,7 @@ use Rattle.hint_words.specs.declared.step.HintStep.{HintStep}
 use Rattle.hop_rule.specs.declared.sizes.BoardSizes.{BoardSizes}
 use Rattle.board_api.specs.Seats.{BoardSeatView}
 use Rattle.board_api.specs.Views.{BoardView}
-use Rattle.run_words.specs.declared.hint_word.TheConstants.{QUEUE_WORDS}
+use Rattle.run_words.specs.Numbers.{word_count}
 use Rattle.run_workers.specs.Hands.Pollers.{HasQueueSettings}
 use Rattle.run_workers.specs.Hands.Servers.{HasTransmitSettings, IsServer}
 use Rattle.run_workers.specs.declared.server.Server.{Server}
@@ -26,7 +26,7 @@ pub record IsDesk (number : ℕ) (board : BoardView) (seat closer : BoardSeatVie
 pub record IsClerk (receive transmit : BoardSizes) (shared : Shared) (hint : SeatView HintStep)
     (server : Server) : Type 0 where
   pub hint_table : hint.table ≡ shared.hints.table
-  pub words : QUEUE_WORDS + server.sent.room ≤ shared.hints.words
+  pub words : word_count server.sent.room ≤ shared.hints.words
   pub app : server.app < receive.outs
   pub settings : HasQueueSettings receive shared.given
   pub room : server.sent.room ≡ receive.room

@@ -3,7 +3,7 @@ ghost use Rattle.std.specs.Prelude.{◌≡◌, ◌<◌, ◌≤◌, ◌+◌, ◌-
 ghost use Rattle.std.specs.Vec.{vec_len};
 ghost use Rattle.steer_base.specs.declared.limits.TheConstants.{MAX_PACKETS};
 ghost use Rattle.steer_model.specs.State.Ranges.{AreOfFlows};
-ghost use Rattle.run_words.specs.declared.hint_word.TheConstants.{FILTER_WORDS, QUEUE_WORDS};
+ghost use Rattle.run_words.specs.Numbers.{word_count as words_for};
 ghost use Rattle.run_workers.specs.Hands.Drains.{IsDrain};
 ghost use Rattle.run_workers.specs.Hands.Pollers.{IsPoller};
 ghost use Rattle.run_workers.specs.declared.drain.Exit.TheVariants.{Inboxes};
@@ -38,7 +38,8 @@ pub struct Worker {
 /// The ends of the rings at which packets arrive, of queue 0 and of queue 1.
 pub type Rings = (Producer<u32, Global>, Producer<u32, Global>);
 
-/// A board, its seats, and the ends of the rings at which packets arrive.
+/// A board and its seats, the wire's seat at the shared words, and the ends of the rings at which
+/// packets arrive.
 #[derive(Drop)]
 pub struct Bench {
     pub board: Board,
@@ -47,6 +48,7 @@ pub struct Bench {
     pub one: Worker,
     pub visitor: BoardSeat,
     pub closer: BoardSeat,
+    pub wire: HintSeat,
     pub rings: Rings,
 }
 
@@ -110,21 +112,21 @@ fn board_of(
     Board::make(alloc, &shape_of(alloc, plan, given), &settings, 4)
 }
 
-// What the threads share.
+// What the threads share, and the seats of two workers and of the wire at its words.
 fn shared_of(
     rt: &impl Abort,
     alloc: Global,
     given: Given,
-) -> Result<(Shared, HintSeat, HintSeat), OutOfMemory>
+) -> Result<(Shared, HintSeat, HintSeat, HintSeat), OutOfMemory>
     ensures given { IfOk result (λ r. r.0.given ≡ given) }
     ensures filters { IfOk result (λ r. r.0.filters ≡ 8) }
-    ensures words { IfOk result (λ r. FILTER_WORDS + r.0.filters ≤ r.0.hints.words) }
-    ensures queue_words { IfOk result
-        (λ r. QUEUE_WORDS + length given.packets ≤ r.0.hints.words) }
+    ensures words { IfOk result (λ r. words_for (length given.packets) ≤ r.0.hints.words) }
     ensures zero { IfOk result (λ r. r.1.table ≡ r.0.hints.table) }
     ensures one { IfOk result (λ r. r.2.table ≡ r.0.hints.table) }
+    ensures wire { IfOk result (λ r. r.3.table ≡ r.0.hints.table) }
 {
-    let (hints, mut seats) = Hints::make(alloc, word_count(given.packet_count()), 2)?;
+    let (hints, mut seats) = Hints::make(alloc, word_count(given.packet_count()), 3)?;
+    let wire = seats.pop().expect(rt, "a hint seat");
     let one = seats.pop().expect(rt, "a hint seat");
     let zero = seats.pop().expect(rt, "a hint seat");
     let shared = Shared {
@@ -132,7 +134,7 @@ fn shared_of(
         given,
         filters: FILTERS,
     };
-    Ok((shared, zero, one))
+    Ok((shared, zero, one, wire))
 }
 
 // A worker that has made no step, by its seats and its poller.
@@ -219,11 +221,13 @@ pub fn begun(
     ensures opened { IfOk result (λ b. opened_by b.closer ≡ 0) }
     ensures room { IfOk result (λ b. b.board.sizes.room ≡ length b.shared.given.packets) }
     ensures words { IfOk result
-        (λ b. QUEUE_WORDS + length b.shared.given.packets ≤ b.shared.hints.words) }
+        (λ b. words_for (length b.shared.given.packets) ≤ b.shared.hints.words) }
+    ensures wire { IfOk result (λ b. b.wire.table ≡ b.shared.hints.table) }
 {
     let given = Given::of_plan(alloc, plan, packets, None)?;
     let (board, mut seats) = board_of(rt, alloc, plan, &given).expect(rt, "memory");
-    let (shared, hint_zero, hint_one) = shared_of(rt, alloc, given).expect(rt, "memory");
+    let shared = shared_of(rt, alloc, given);
+    let (shared, hint_zero, hint_one, wire) = shared.expect(rt, "memory");
     let closer = last_seat(&board, &mut seats, 4).expect(rt, "the closer's seat");
     let visitor = last_seat(&board, &mut seats, 3).expect(rt, "the visitor's seat");
     let one = last_worker(rt, alloc, &board, &shared, plan, 1, &mut seats, hint_one);
@@ -237,6 +241,7 @@ pub fn begun(
         one,
         visitor,
         closer,
+        wire,
         rings: (ring_zero, ring_one),
     })
 }

@@ -3,7 +3,7 @@ ghost use Rattle.hand_tests.specs.Benches.{IsWorker, Rests};
 
 use crate::bench::{Worker, begun};
 use crate::frames::packets_of;
-use crate::hands::{Act, arrive, closed, drains_beside, ids, works};
+use crate::hands::{Act, announce, arrive, closed, drains_beside, ids, works};
 use board_api::{BoardSeat, LaneId};
 use hop_board::Board;
 use plan_reader::read_plan;
@@ -38,6 +38,7 @@ fn packets_go_to_their_inboxes(rt: HostRuntime) -> Result<(), Fail> {
     let plan = read_plan(alloc, PLAN)?;
     let packets = packets_of(alloc, &plan, &[0, 1, 0, 0])?;
     let mut b = begun(&rt, alloc, &plan, &packets)?;
+    announce(&rt, &b.shared, &mut b.wire, 0, 0, 4);
     arrive(&rt, &mut b.rings.0, 0, 4);
     works(&rt, &b.board, &b.shared, &mut b.zero, &DRAINS_THREE);
     let lists = closed(&rt, alloc, b);
@@ -84,6 +85,7 @@ fn a_held_lane_is_left_for_later(rt: HostRuntime) -> Result<(), Fail> {
     let plan = read_plan(alloc, PLAN)?;
     let packets = packets_of(alloc, &plan, &[0, 1])?;
     let mut b = begun(&rt, alloc, &plan, &packets)?;
+    announce(&rt, &b.shared, &mut b.wire, 0, 0, 2);
     arrive(&rt, &mut b.rings.0, 0, 2);
     drain_beside_a_holder(&rt, &b.board, &b.shared, &mut b.zero, &mut b.visitor);
     Ok(())

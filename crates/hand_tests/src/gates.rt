@@ -4,7 +4,7 @@ ghost use Rattle.hand_tests.specs.Benches.{IsWorker, Rests, opened_by};
 
 use crate::bench::{Worker, begun};
 use crate::frames::packets_of;
-use crate::hands::{Act, arrive, change, change_beside, change_in_visit, works};
+use crate::hands::{Act, announce, arrive, change, change_beside, change_in_visit, works};
 use board_api::BoardSeat;
 use hop_board::Board;
 use plan_reader::read_plan;
@@ -75,6 +75,7 @@ fn a_change_is_refused(rt: HostRuntime) -> Result<(), Fail> {
     let plan = read_plan(alloc, PLAN)?;
     let packets = packets_of(alloc, &plan, &[0; 2])?;
     let mut b = begun(&rt, alloc, &plan, &packets)?;
+    announce(&rt, &b.shared, &mut b.wire, 0, 0, 1);
     arrive(&rt, &mut b.rings.0, 0, 1);
     refuse(
         &rt,
@@ -122,6 +123,7 @@ fn a_new_flow_count_clears_the_table(rt: HostRuntime) -> Result<(), Fail> {
     let plan = read_plan(alloc, PLAN)?;
     let packets = packets_of(alloc, &plan, &[0; 4])?;
     let mut b = begun(&rt, alloc, &plan, &packets)?;
+    announce(&rt, &b.shared, &mut b.wire, 0, 0, 4);
     arrive(&rt, &mut b.rings.0, 0, 4);
     renew(&rt, &b.board, &b.shared, &mut b.zero, &mut b.closer);
     Ok(())

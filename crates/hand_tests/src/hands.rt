@@ -3,10 +3,12 @@ ghost use Rattle.std.specs.Prelude.{◌≡◌, ◌<◌, ◌≤◌, ◌+◌, OnOk
 ghost use Rattle.std.specs.Vec.{vec_len};
 ghost use Rattle.steer_base.specs.declared.limits.TheConstants.{MAX_SOCKET_SIZE};
 ghost use Rattle.board_api.specs.Calls.HeldLanes.{FitsLane};
+ghost use Rattle.run_words.specs.Numbers.{word_count as words_for};
 ghost use Rattle.hand_tests.specs.Benches.{IsDone, IsWorker, Rests, opened_by};
 
 use crate::bench::{Bench, Worker};
 use board_api::{BoardLists, BoardSeat, EnterAnswer, Hold, LaneId};
+use hint_words::HintSeat;
 use hop_board::Board;
 use rtrb::Producer;
 use run_controller::{close_empty, set_and_open};
@@ -20,7 +22,28 @@ use steer_base::{Busy, CpuMask, List, MAX_SOCKET_SIZE, OutOfMemory, PacketId, Wh
 /// that was chosen, and why.
 pub type Shown = (Option<u32>, Option<u8>, Option<u32>, u8, Why);
 
-/// So many packets arrive at the ring of a queue, by number from the first.
+/// The wire announces the queue of so many packets, by number from the first.
+pub fn announce(
+    rt: &impl Abort,
+    shared: &Shared,
+    wire: &mut HintSeat,
+    queue: u8,
+    first: u32,
+    count: u32,
+)
+    requires table { wire.old.table ≡ shared.now.hints.table }
+    requires words { words_for (length shared.now.given.packets) ≤ shared.now.hints.words }
+    ensures table { wire.new.table ≡ shared.now.hints.table }
+{
+    for n in 0..count {
+        let id = first.wrapping_add(n);
+        assert!(rt; id < shared.given.packet_count());
+        let number = HintWord::Queue(PacketId(id)).number();
+        shared.hints.store(wire, number, place_word(queue));
+    }
+}
+
+/// So many packets are given to the ring of a queue, by number from the first.
 pub fn arrive(rt: &impl Abort, ring: &mut Producer<u32, Global>, first: u32, count: u32) {
     for n in 0..count {
         assert!(rt; ring.push(first.wrapping_add(n)).is_ok());
@@ -78,8 +101,12 @@ fn drain_beside(
 /// What a worker does, and what comes of it.
 #[derive(Clone, Copy)]
 pub enum Act {
+    /// It polls, with this result, packet in hand and count of choices.
+    Waits((bool, Option<PacketId>, u32)),
     /// It polls, and a packet is steered by this choice.
     Steers(Shown),
+    /// The mark of a packet is this word.
+    Marked(u32, u64),
     /// It drains, with this result, packet in hand and count of retired packets.
     Drains((bool, Option<PacketId>, u32)),
     /// It stores the processor of an entry of the socket flow table.
@@ -111,13 +138,35 @@ fn perform<R: Wait + Abort>(rt: &R, board: &Board, shared: &Shared, worker: &mut
         worker.new.seat worker.new.hint }
 {
     match act {
+        Act::Waits(wanted) => waits(rt, board, shared, worker, wanted),
         Act::Steers(wanted) => steers(rt, board, shared, worker, wanted),
+        Act::Marked(id, wanted) => {
+            assert!(rt; id < worker.poller.choices.room());
+            assert!(rt; mark_of(board, shared, worker, id) == wanted);
+        }
         Act::Drains(wanted) => drains(rt, board, shared, worker, wanted),
         Act::Note(entry, cpu) => {
             assert!(rt; entry < MAX_SOCKET_SIZE);
             note(board, shared, worker, entry, cpu);
         }
     }
+}
+
+// Polls once, with this result, packet in hand and count of choices.
+fn waits<R: Wait + Abort>(
+    rt: &R,
+    board: &Board,
+    shared: &Shared,
+    worker: &mut Worker,
+    wanted: (bool, Option<PacketId>, u32),
+)
+    requires { IsWorker board.now shared.now worker.old.poller worker.old.drain
+        worker.old.seat worker.old.hint }
+    ensures { IsWorker board.now shared.now worker.new.poller worker.new.drain
+        worker.new.seat worker.new.hint }
+{
+    let did = poll(rt, board, shared, worker);
+    assert!(rt; (did, worker.poller.hand, worker.poller.choices.len()) == wanted);
 }
 
 // Polls once, and a packet is steered by this choice.
@@ -191,6 +240,19 @@ pub fn note(board: &Board, shared: &Shared, worker: &mut Worker, entry: u32, cpu
         HintWord::Socket(entry).number(),
         place_word(cpu),
     );
+}
+
+// The mark of a packet.
+fn mark_of(board: &Board, shared: &Shared, worker: &mut Worker, id: u32) -> u64
+    requires worker { IsWorker board.now shared.now worker.old.poller worker.old.drain
+        worker.old.seat worker.old.hint }
+    requires id { id < worker.old.poller.choices.room }
+    ensures { IsWorker board.now shared.now worker.new.poller worker.new.drain
+        worker.new.seat worker.new.hint }
+{
+    shared
+        .hints
+        .load(&mut worker.hint, HintWord::Steered(PacketId(id)).number())
 }
 
 /// The word of a filter.
@@ -345,6 +407,7 @@ pub fn closed(rt: &impl Abort, alloc: Global, bench: Bench) -> BoardLists
         one,
         visitor,
         closer,
+        wire: _,
         rings: _,
     } = bench;
     let mut seats = Vec::new(alloc);

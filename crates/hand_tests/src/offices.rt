@@ -7,7 +7,7 @@ ghost use Rattle.hand_tests.specs.Offices.{IsDesk};
 
 use crate::bench::{Bench, Worker, begun, last_seat};
 use crate::frames::packets_of;
-use crate::hands::{arrive, drain, poll};
+use crate::hands::{announce, arrive, drain, poll};
 use board_api::BoardSeat;
 use hint_words::HintSeat;
 use hop_board::Board;
@@ -134,6 +134,7 @@ pub fn office_of<R: Wait + Abort>(rt: &R, alloc: Global, flows: &[u8]) -> Result
     let packets = packets_of(alloc, &plan, flows)?;
     let mut bench = begun(rt, alloc, &plan, &packets).expect(rt, "memory");
     let count = bench.shared.given.packet_count();
+    announce(rt, &bench.shared, &mut bench.wire, 0, 0, count);
     arrive(rt, &mut bench.rings.0, 0, count);
     fill(rt, &bench.board, &bench.shared, &mut bench.zero, count);
     let desk = transmit_of(rt, alloc, &plan, &bench.shared.given);

@@ -3,25 +3,36 @@ ghost use Rattle.hand_tests.specs.Benches.{IsWorker};
 
 use crate::bench::{Worker, begun};
 use crate::frames::packets_of;
-use crate::hands::{Act, arrive, filter_at, poll, works};
+use crate::hands::{Act, announce, arrive, filter_at, poll, works};
 use hop_board::Board;
 use plan_reader::read_plan;
 use run_words::Shared;
 use std::process::Abort;
 use std::sync::Wait;
 use std::test::Fail;
-use steer_base::Why;
+use steer_base::{PacketId, Why};
 
 const PLAN: &[u8] = b"{\"cpus\": 2, \"queues\": [{\"home\": 1, \"mask\": [1], \"flows\": 256}, \
     {\"home\": 0, \"mask\": [0], \"flows\": 256}], \
     \"sock\": 1024, \"backlog\": 1, \"apps\": [0, 1], \"tx\": [{\"cpus\": [], \"queues\": []}], \
     \"steps\": []}";
 
-const MOVES: [Act; 1] = [Act::Steers((Some(120), None, None, 1, Why::Unset))];
+const WAITS: [Act; 3] = [
+    Act::Waits((true, Some(PacketId(0)), 0)),
+    Act::Waits((false, Some(PacketId(0)), 0)),
+    Act::Marked(0, 0),
+];
 
-const IS_KEPT: [Act; 2] = [
+const MOVES: [Act; 2] = [
+    Act::Steers((Some(120), None, None, 1, Why::Unset)),
+    Act::Marked(0, 1),
+];
+
+const IS_KEPT: [Act; 4] = [
     Act::Note(376, 0),
+    Act::Marked(1, 0),
     Act::Steers((Some(120), Some(0), Some(0), 1, Why::Kept)),
+    Act::Marked(1, 1),
 ];
 
 // Steers two packets, with a reader on processor 0 at the second, and finds no third.
@@ -40,9 +51,10 @@ fn move_and_keep<R: Wait + Abort>(rt: &R, board: &Board, shared: &Shared, worker
 }
 
 // Flow 0 has hash 0x51ccc178: class 120 of 256, entry 376 of 1,024, filter 0 of 8. Its first packet
-// moves to processor 1, which is the queue's home, so a filter is stored: queue 0, processor 1,
-// mark 1. Then its reader runs on processor 0, but the first packet still waits on processor 1,
-// whose backlog is full.
+// stays in hand until it is announced. Then it moves to processor 1, which is the queue's home, so
+// a filter is stored: queue 0, processor 1, mark 1. Then its reader runs on processor 0, but the
+// first packet still waits on processor 1, whose backlog is full. Either packet is marked as
+// steered, the dropped one too.
 #[test]
 fn a_flow_moves_and_is_kept(rt: HostRuntime) -> Result<(), Fail> {
     let alloc = rt.alloc();
@@ -50,6 +62,8 @@ fn a_flow_moves_and_is_kept(rt: HostRuntime) -> Result<(), Fail> {
     let packets = packets_of(alloc, &plan, &[0; 2])?;
     let mut b = begun(&rt, alloc, &plan, &packets)?;
     arrive(&rt, &mut b.rings.0, 0, 2);
+    works(&rt, &b.board, &b.shared, &mut b.zero, &WAITS);
+    announce(&rt, &b.shared, &mut b.wire, 0, 0, 2);
     move_and_keep(&rt, &b.board, &b.shared, &mut b.zero);
     Ok(())
 }

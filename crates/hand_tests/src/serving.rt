@@ -47,8 +47,10 @@ pub enum Act {
     ReplyLate,
     /// It replies while the gate of the transmit board is closed.
     ReplyAtClosed,
-    /// The word of a packet gets a receive queue.
-    Queue(u32, u8),
+    /// The word of a packet's receive queue gets this: the queue and one more, or 0 for none.
+    Queue(u32, u64),
+    /// The word gets this that says whether a packet is steered.
+    Mark(u32, u64),
     /// The word of the application gets a processor.
     Stand(u8),
 }
@@ -131,13 +133,16 @@ fn reply_at_closed<R: Wait + Abort>(rt: &R, office: &mut Office, late: &[Arrival
     }
 }
 
-fn note_queue(rt: &impl Abort, office: &mut Office, id: u32, queue: u8) {
+fn note_queue(rt: &impl Abort, office: &mut Office, id: u32, word: u64) {
     assert!(rt; id < office.server.sent.room());
     let number = HintWord::Queue(PacketId(id)).number();
-    office
-        .shared
-        .hints
-        .store(&mut office.hint, number, place_word(queue));
+    office.shared.hints.store(&mut office.hint, number, word);
+}
+
+fn note_mark(rt: &impl Abort, office: &mut Office, id: u32, word: u64) {
+    assert!(rt; id < office.server.sent.room());
+    let number = HintWord::Steered(PacketId(id)).number();
+    office.shared.hints.store(&mut office.hint, number, word);
 }
 
 fn stand_at(office: &mut Office, cpu: u8) {
@@ -157,8 +162,12 @@ fn perform<R: Wait + Abort>(rt: &R, office: &mut Office, act: Act) -> bool {
         Act::Reply => reply(rt, office, &[]),
         Act::ReplyLate => reply(rt, office, &ARRIVALS),
         Act::ReplyAtClosed => reply_at_closed(rt, office, &ARRIVALS),
-        Act::Queue(id, queue) => {
-            note_queue(rt, office, id, queue);
+        Act::Queue(id, word) => {
+            note_queue(rt, office, id, word);
+            true
+        }
+        Act::Mark(id, word) => {
+            note_mark(rt, office, id, word);
             true
         }
         Act::Stand(cpu) => {

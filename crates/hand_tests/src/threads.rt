@@ -4,7 +4,7 @@ ghost use Rattle.hand_tests.specs.Benches.{IsWorker};
 
 use crate::bench::{Bench, Worker, begun};
 use crate::frames::packets_of;
-use crate::hands::{arrive, closed, drain, ids, poll};
+use crate::hands::{announce, arrive, closed, drain, ids, poll};
 use hop_board::Board;
 use plan_reader::read_plan;
 use run_words::Shared;
@@ -104,6 +104,8 @@ fn each_packet_comes_once_and_in_order(rt: HostRuntime) -> Result<(), Fail> {
     let plan = read_plan(alloc, PLAN)?;
     let packets = packets_of(alloc, &plan, &FLOWS)?;
     let mut bench = begun(&rt, alloc, &plan, &packets)?;
+    announce(&rt, &bench.shared, &mut bench.wire, 0, 0, PACKETS);
+    announce(&rt, &bench.shared, &mut bench.wire, 1, PACKETS, PACKETS);
     arrive(&rt, &mut bench.rings.0, 0, PACKETS);
     arrive(&rt, &mut bench.rings.1, PACKETS, PACKETS);
     let Bench {
@@ -113,6 +115,7 @@ fn each_packet_comes_once_and_in_order(rt: HostRuntime) -> Result<(), Fail> {
         one,
         visitor,
         closer,
+        wire,
         rings,
     } = bench;
     let (zero, one) = run_both(&rt, &board, &shared, zero, one);
@@ -125,6 +128,7 @@ fn each_packet_comes_once_and_in_order(rt: HostRuntime) -> Result<(), Fail> {
         one,
         visitor,
         closer,
+        wire,
         rings,
     };
     let lists = closed(&rt, alloc, bench);

@@ -1,14 +1,19 @@
--- Forged reports of runs are refused by the order of their hop.
-use Rattle.std.proofs.Common.{inl, inr, ℕ, suc, ◌<◌, arith}
+-- Forged reports of runs are refused by the order of their hop, and by that of the shared words.
+use Rattle.std.proofs.Common.{inl, inr, ℕ, suc, ◌<◌, ap, ◌∙◌, arith}
 use Rattle.std.proofs.lemmas.Bool.{cases_lt}
 use Rattle.std.proofs.lemmas.Option.{slice_get_within}
 use Rattle.history.specs.Lists.{list_at}
+use Rattle.steer_base.specs.Choices.{class_of}
+use Rattle.steer_base.specs.Counters.{rounded_up}
+use Rattle.steer_model.specs.Good.Inputs.{setup_in}
+use Rattle.steer_model.specs.State.Setup.{packet_hash}
 use Rattle.headline.specs.ForgedRuns.{CircleOfQueuesIsForged, FutureHeadIsForged}
 use Rattle.headline.specs.ForgedRuns.{FutureTransmitHeadIsForged, OverfullBacklogIsForged}
+use Rattle.headline.specs.ForgedRuns.{OwnFilterIsForged, OwnWantIsForged}
 use Rattle.headline.specs.ForgedRuns.{StaleDropIsForged, StaleSettingsAreForged}
 use Rattle.headline.specs.ForgedRuns.{StalerDropIsForged, SwappedInboxIsForged}
 use Rattle.headline.specs.ForgedRuns.{SwappedPortIsForged, SwappedPutsAreForged}
-use Rattle.headline.specs.ForgedRuns.{UnpulledHeadIsForged}
+use Rattle.headline.specs.ForgedRuns.{UnpulledHeadIsForged, UnsetWantIsForged}
 use Rattle.headline.specs.HopOrders.{AcceptedAs, HopLists, HopOrder, receive_lists}
 use Rattle.headline.specs.HopOrders.{transmit_lists}
 use Rattle.headline.proofs.ListOrderLemmas.{orders-show}
@@ -110,3 +115,21 @@ stale-settings-forged i h run a b less =
     (slice_get_within (list_at o.choices 1) 0 b.chosen b.choice) in
     let up = run.settings.rise (order.put 0 0) (order.put 1 0) (omega arith) in
     absurd (omega arith)
+
+pub own-want-forged : OwnWantIsForged
+own-want-forged i h want run less sees own =
+    let w = (run.wants.wants 0 0 want less sees).2 in
+    let c = own w.app (run.wants.reply w.app w.index) w.sent w.for in
+    w.older c.0 (omega arith) c.1 c.2
+
+pub own-filter-forged : OwnFilterIsForged
+own-filter-forged i h a hash queue run arrived first has came =
+    let f = run.filters a hash queue arrived (ap (packet_hash (setup_in i)) first ∙ has) came in
+    let older = f.1 in
+    absurd (omega (arith, older, first))
+
+pub unset-want-forged : UnsetWantIsForged
+unset-want-forged i h want entry run less sees at same classed unset none =
+    let done = run.stay 0 0 1 want entry (omega arith) less sees at
+    (ap (class_of (rounded_up i.plan.sock)) same ∙ at) classed unset in
+    none done.0 done.1

@@ -11,6 +11,7 @@ use Rattle.steer_model.specs.Good.Inputs.{Input, settings_at}
 use Rattle.steer_model.specs.Good.Replies.{IsReplyByRule}
 use Rattle.headline.specs.HopOrders.{AcceptedAs, HopCounts, HopOrder, receive_lists}
 use Rattle.headline.specs.HopOrders.{transmit_lists}
+use Rattle.headline.specs.OrdersOfWords.{FiltersAreOlder, WantsAreOlder, WantsStaySet}
 
 -- The packets that had been put to a processor, in the order of their puts, when these were the
 -- counts.
@@ -51,7 +52,8 @@ pub record MapsGoForward (i : Input) (h : History) (o : HopOrder (transmit_lists
 -- The lists of a history are those of a run. All that was done on the way in was done in one order:
 -- in it no more packets than the backlog ever waited at a processor, no packet was accepted that
 -- had to be dropped, and the settings go forward. All that was done on the way out was done in one
--- order too, in which the maps go forward. Between the two orders nothing is said.
+-- order too, in which the maps go forward. Between the two orders nothing is said. A filter or a
+-- want that was seen was caused by an earlier packet, and no want is unset but by a command.
 pub record IsByRun (i : Input) (h : History) : Type 0 where
   pub receive : HopOrder (receive_lists h)
   pub room : (m c : ℕ) → (receive.at m).accepted c ≤ (receive.at m).pulled c + i.plan.backlog
@@ -60,3 +62,6 @@ pub record IsByRun (i : Input) (h : History) : Type 0 where
   pub settings : SettingsGoForward i h receive
   pub transmit : HopOrder (transmit_lists h)
   pub maps : MapsGoForward i h transmit
+  pub filters : FiltersAreOlder i h
+  pub wants : WantsAreOlder i h settings.at
+  pub stay : WantsStaySet i h

@@ -1,10 +1,21 @@
 -- Forged reports of runs: what a good history could show that no run leaves. Each is a pattern in
 -- lists, of queue 0 or application 0 where nothing else is said, with packets counted from 0, and
 -- is refused by what it is named for.
-use Rattle.std.specs.Prelude.{◌≡◌, ◌<◌}
+use Rattle.std.specs.Prelude.{IsSome, ℕ, ◌≡◌, ◌<◌, None, Some, length, slice_get}
+use Rattle.std.specs.List.{Contains}
+use Rattle.history.specs.Lists.{list_at}
+use Rattle.history.specs.Regular.{route_of}
+use Rattle.history.specs.declared.arrival.Arrival.{Arrival}
 use Rattle.history.specs.declared.history.History.{History}
+use Rattle.history.specs.declared.sent.Sent.{Sent}
+use Rattle.hop_core.specs.Hop.{chosen_at}
+use Rattle.steer_base.specs.Arrivals.{route}
+use Rattle.steer_base.specs.Choices.{class_of}
+use Rattle.steer_base.specs.Counters.{rounded_up}
+use Rattle.steer_base.specs.declared.command.Command.TheVariants as give
 use Rattle.steer_base.specs.declared.put.LaneDrop.{LaneDrop}
-use Rattle.steer_model.specs.Good.Inputs.{Input}
+use Rattle.steer_model.specs.Good.Inputs.{Input, WasDone, setup_in}
+use Rattle.steer_model.specs.State.Setup.{packet_hash}
 use Rattle.headline.specs.ByRun.{IsByRun}
 use Rattle.headline.specs.HopOrders.{AcceptedAs, DeliveredAs, DroppedAs, SawHead, receive_lists}
 use Rattle.headline.specs.HopOrders.{transmit_lists}
@@ -86,3 +97,35 @@ abbrev pub StaleSettingsAreForged : Type 0
 StaleSettingsAreForged =
     (i : Input) (h : History) (run : IsByRun i h) → AcceptedAs (receive_lists h) 0 0 1 0
     → AcceptedAs (receive_lists h) 1 0 1 1 → run.settings.at 1 0 < run.settings.at 0 0 → ⊥
+
+-- A want of its own. Choice 0 of queue 0 saw a want, and queue 0 chose for all packets that
+-- applications took, so none was written before.
+abbrev pub OwnWantIsForged : Type 0
+OwnWantIsForged =
+    (i : Input) (h : History) (want : ℕ) → IsByRun i h → 0 < length (list_at h.choices 0)
+    → (chosen_at (list_at h.choices 0) 0).choice.want ≡ Some want
+    → ((a n : ℕ) (s : Sent) → slice_get (list_at h.sent a) n ≡ Some s
+    → (j : ℕ) × (j < length (list_at h.choices 0))
+    × ((chosen_at (list_at h.choices 0) j).id ≡ s.id))
+    → ⊥
+
+-- A filter of its own. The first packet of all came by a filter.
+abbrev pub OwnFilterIsForged : Type 0
+OwnFilterIsForged =
+    (i : Input) (h : History) (a : Arrival) (hash queue : ℕ) → IsByRun i h
+    → Contains h.arrivals a → a.id ≡ 0 → packet_hash (setup_in i) 0 ≡ Some hash
+    → route_of a ≡ route (Some hash) (Some queue) 0 → ⊥
+
+-- A want that is unset. Choices 0 and 1 of queue 0 are for packets of one hash; the first saw a
+-- want, the second none, though it has a class; and no command set the size of the table.
+abbrev pub UnsetWantIsForged : Type 0
+UnsetWantIsForged =
+    (i : Input) (h : History) (want entry : ℕ) → IsByRun i h → 1 < length (list_at h.choices 0)
+    → (chosen_at (list_at h.choices 0) 0).choice.want ≡ Some want
+    → class_of (rounded_up i.plan.sock)
+    (packet_hash (setup_in i) (chosen_at (list_at h.choices 0) 0).id) ≡ Some entry
+    → packet_hash (setup_in i) (chosen_at (list_at h.choices 0) 1).id
+    ≡ packet_hash (setup_in i) (chosen_at (list_at h.choices 0) 0).id
+    → IsSome (chosen_at (list_at h.choices 0) 1).choice.class
+    → (chosen_at (list_at h.choices 0) 1).choice.want ≡ None
+    → ((size : ℕ) → WasDone h (give.Sock size) → ⊥) → ⊥

@@ -8,6 +8,7 @@ pub mod Moments
 pub mod Headline
 pub mod HopOrders
 pub mod ListOrders
+pub mod OrdersOfWords
 pub mod ByRun
 pub mod Live
 pub mod Forged

@@ -8,10 +8,12 @@ ghost use Rattle.headline.specs.Forged.{HeadlinesAreOfTheRun, MovingAtOnceIsForg
 ghost use Rattle.headline.specs.Forged.{NeverMovingIsForged, NoWantIsForged};
 ghost use Rattle.headline.specs.ForgedRuns.{CircleOfQueuesIsForged, FutureHeadIsForged};
 ghost use Rattle.headline.specs.ForgedRuns.{FutureTransmitHeadIsForged, OverfullBacklogIsForged};
+ghost use Rattle.headline.specs.ForgedRuns.{OwnFilterIsForged, OwnWantIsForged};
 ghost use Rattle.headline.specs.ForgedRuns.{StaleDropIsForged, StaleSettingsAreForged};
 ghost use Rattle.headline.specs.ForgedRuns.{StalerDropIsForged};
 ghost use Rattle.headline.specs.ForgedRuns.{SwappedInboxIsForged, SwappedPortIsForged};
 ghost use Rattle.headline.specs.ForgedRuns.{SwappedPutsAreForged, UnpulledHeadIsForged};
+ghost use Rattle.headline.specs.ForgedRuns.{UnsetWantIsForged};
 ghost use Rattle.headline.specs.Laws.{GoodHistoriesAreRight, GoodHistoriesAreWhole};
 ghost use Rattle.headline.specs.Laws.{RunReportsHaveTheHeadline};
 ghost use Rattle.headline.specs.Laws.{ReplaysAreOfTheirRuns, ReplaysAreRight};
@@ -120,7 +122,9 @@ pub fn an_order_shows_in_its_lists()
 /// head beyond a later put, on the way in or out; puts of one queue in another order than its
 /// choices; an inbox, or the port, in another order than its lane; drops whose counts are below an
 /// earlier put; a drop that counts fewer pulled packets than a head; a backlog that accepts when it
-/// is full; two queues each behind the other; and settings that go back.
+/// is full; two queues each behind the other; settings that go back; a want that only the packets
+/// of its own choice and of later ones can have written; a filter that only the first packet of all
+/// or a later one can have set; and a want that is unset again without a command.
 pub fn forged_runs_are_no_runs()
     ensures future_head { FutureHeadIsForged }
     ensures swapped_puts { SwappedPutsAreForged }
@@ -133,6 +137,9 @@ pub fn forged_runs_are_no_runs()
     ensures overfull_backlog { OverfullBacklogIsForged }
     ensures circle_of_queues { CircleOfQueuesIsForged }
     ensures stale_settings { StaleSettingsAreForged }
+    ensures own_want { OwnWantIsForged }
+    ensures own_filter { OwnFilterIsForged }
+    ensures unset_want { UnsetWantIsForged }
 {}
 
 /// Lemma: the report of a good history of these bytes whose lists are those of a run is that of

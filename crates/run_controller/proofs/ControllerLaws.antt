@@ -7,7 +7,8 @@ use Rattle.std.proofs.lemmas.List.{length-map}
 use Rattle.std.proofs.lemmas.List.Elements.{All-cons, All-head, All-nil, All-tail}
 use Rattle.steer_base.specs.declared.command.Answer.TheVariants as says
 use Rattle.steer_base.specs.declared.command.Command.TheVariants as give
-use Rattle.hint_words.specs.declared.step.HintStep.TheVariants.{Store}
+use Rattle.hint_words.specs.declared.step.HintStep.{HintStep}
+use Rattle.hint_words.specs.declared.step.HintStep.TheVariants.{ClearIf, Store}
 use Rattle.history.specs.declared.commanded.Commanded.{Commanded}
 use Rattle.history.specs.declared.history.History.{History}
 use Rattle.hop_rule.proofs.Lists.{none-some}
@@ -44,7 +45,8 @@ use Rattle.run_words.specs.declared.seats.Seats.{Seats}
 use Rattle.run_controller.proofs.AgreeLemmas.{Agrees, agrees, given_in, known-generations}
 use Rattle.run_controller.proofs.AgreeLemmas.{known-settings}
 use Rattle.run_controller.proofs.ListLemmas.{append-none, contains-first, contains-later}
-use Rattle.run_controller.proofs.OneTryLemmas.{IsStoredBy, Kept, attempt_kept, stage_in}
+use Rattle.run_controller.proofs.HintLemmas.{ClearsFilters, IsStoredBy, clears-none, clears-on}
+use Rattle.run_controller.proofs.OneTryLemmas.{Kept, attempt_kept, stage_in}
 
 -- ---- lists
 
@@ -134,6 +136,7 @@ module _ (i : Input) (h : History) (hints : Shared) (rx tx : BoardView)
     stored : (n v : ℕ) → Contains new.hint.steps (Store n v)
         → Contains old.hint.steps (Store n v)
         ⊎ ((g : Commanded) × Contains late g × IsStoredBy g n v)
+    cleared : ClearsFilters i.plan.filters old.hint new.hint
 
   abbrev words : List Try → ℕ → ℕ
   words ts = words_after rx.sizes (received_sets q) at_receive ts
@@ -180,6 +183,7 @@ module _ (i : Input) (h : History) (hints : Shared) (rx tx : BoardView)
           ]
           | inr by ↦ inr (g, contains-first g rest, by)
         ];
+        cleared = clears-on i.plan.filters old.hint mid.hint new.hint a.cleared k.cleared;
       }
 
   all_kept : (late : List Commanded) (old new : Seats) → All (Within i) late
@@ -195,6 +199,7 @@ module _ (i : Input) (h : History) (hints : Shared) (rx tx : BoardView)
         finds = tt;
         answered = tt;
         stored = λ n v has. inl (subst (λ (s : Seats). Contains s.hint.steps (Store n v)) same has);
+        cleared = clears-none i.plan.filters old.hint new.hint (ap (λ (s : Seats). s.hint) same);
       }
   all_kept (g ∷ rest) old new within (mid, older, attempt) =
       let tail = All-tail (Within i) g rest within in
@@ -240,8 +245,15 @@ stored_for h c late g n v shared journal among by =
             value ∙ sym (shared.place cpu),
             done (record { command = give.Stand app cpu; answer = says.Done }) is,
           ))
-      | inr (inr (place, number, value)) ↦
-          inr (inr (place, number ∙ sym (shared.socket place), value))
+      | inr (inr (place, size, low, number, value, is)) ↦
+          inr (inr (
+            place,
+            size,
+            low,
+            number ∙ sym (shared.socket place),
+            value,
+            done (record { command = give.Sock size; answer = says.Done }) is,
+          ))
     ]
   where
     done : (d : Commanded) → g ≡ d → (j : ℕ) × (slice_get h.commands j ≡ Some d)
@@ -286,11 +298,18 @@ controller_keeps_coupling keep i h s rx_own tx_own c last old new shared boards 
         commands = record { given = gives; answered = k.answered };
         stored = λ n v has. elim (k.stored n v has) [
           | inl oldest ↦
-              absurd (nobody n v (subst (λ ds. Contains ds (Store n v)) hint_none oldest))
+              absurd (no-step (Store n v)
+              (subst (λ ds. Contains ds (Store n v)) hint_none oldest))
           | inr found ↦ stored_for h c late found.0 n v shared journal found.1 found.2
+        ];
+        cleared = λ n v clears has. elim (k.cleared n v clears has) [
+          | inl oldest ↦
+              absurd (no-step (ClearIf n v clears)
+              (subst (λ ds. Contains ds (ClearIf n v clears)) hint_none oldest))
+          | inr (place, less, is) ↦ (place, less, is ∙ sym (shared.filter place))
         ];
       },
     )
   where
-    nobody : (n v : ℕ) → Contains [] (Store n v) → ⊥
-    nobody n v (k, less, is) = absurd (omega arith)
+    no-step : (d : HintStep) → Contains [] d → ⊥
+    no-step d (k, less, is) = absurd (omega arith)

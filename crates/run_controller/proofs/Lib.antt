@@ -1,6 +1,7 @@
 pub mod GateLemmas
 pub mod GatedLaws
 mod ListLemmas
+mod HintLemmas
 mod LoopLemmas
 mod SeatLemmas
 mod KnownLemmas

@@ -12,8 +12,7 @@ use Rattle.steer_base.specs.declared.command.Command.TheVariants as give
 use Rattle.steer_base.specs.declared.command.Refused.{Refused}
 use Rattle.steer_base.specs.declared.command.Refused.TheVariants as refused
 use Rattle.steer_base.specs.declared.cpu_mask.CpuMask.{CpuMask}
-use Rattle.hint_words.specs.declared.step.HintStep.{HintStep}
-use Rattle.hint_words.specs.declared.step.HintStep.TheVariants.{ClearIf, Load, Store}
+use Rattle.hint_words.specs.declared.step.HintStep.TheVariants.{ClearIf, Store}
 use Rattle.history.specs.declared.commanded.Commanded.{Commanded}
 use Rattle.history.specs.declared.history.History.{History}
 use Rattle.history.specs.declared.lane_list.LaneList.{LaneList}
@@ -38,8 +37,8 @@ use Rattle.run_coupling.specs.Coupling.EmptiedLanes.{FindsAllEmpty, NoSets}
 use Rattle.run_coupling.specs.Coupling.Inputs.{NamesReceiveQueues, receive_queues}
 use Rattle.run_coupling.specs.Coupling.Tries.{SetsByAnswer, Try, sets_and_openings}
 use Rattle.run_controller.specs.Gated.{GatedTriesKeep, IsGated, KeepsTry}
-use Rattle.run_words.specs.HintViews.{HintView, after_step}
-use Rattle.run_controller.specs.Attempts.{AreClears, ClearsByAnswer, DoesAtOnce, HintsBehind}
+use Rattle.run_words.specs.HintViews.{after_step}
+use Rattle.run_controller.specs.Attempts.{DoesAtOnce}
 use Rattle.run_controller.specs.Attempts.{TriesAtReceive, TriesAtTransmit, TriesBy, TriesUnless}
 use Rattle.run_controller.specs.Laws.{AreBoards}
 use Rattle.run_controller.specs.Settings.{KnownSettings, receive_change, transmit_change}
@@ -48,79 +47,12 @@ use Rattle.run_controller.specs.declared.change.Change.{Change}
 use Rattle.run_words.specs.declared.seats.Seats.{Seats}
 use Rattle.run_controller.proofs.AgreeLemmas.{Agrees, as_set, at-receive, at-transmit, receive-none}
 use Rattle.run_controller.proofs.AgreeLemmas.{receive-set, sent-set}
+use Rattle.run_controller.proofs.HintLemmas.{ClearsFilters, IsStoredBy, StoresFor, behind-clears}
+use Rattle.run_controller.proofs.HintLemmas.{behind-stores, clears-more, clears-none, past-step}
+use Rattle.run_controller.proofs.HintLemmas.{store-no-clear, stores-none, value_of, word_of}
 use Rattle.run_controller.proofs.ListLemmas.{contains-cases}
 use Rattle.run_controller.proofs.LoopLemmas.{few_expired}
 use Rattle.run_controller.proofs.SeatLemmas.{Glance, expired_steps, first_glances, glances}
-
--- ---- what a try may store
-
--- a done command stored this value in this word, or an entry of the socket flow table was cleared
-abbrev pub IsStoredBy : Commanded → ℕ → ℕ → Type 0
-IsStoredBy g number value =
-    ((entry : ℕ) × (q : ℕ) × (number ≡ hint_number (word.Redirection entry))
-    × (value ≡ place_word q) × (g ≡ record { command = give.Reta entry q; answer = says.Done }))
-    ⊎ ((app : ℕ) × (cpu : ℕ) × (number ≡ hint_number (word.Stand app))
-    × (value ≡ place_word cpu) × (g ≡ record { command = give.Stand app cpu; answer = says.Done }))
-    ⊎ ((place : ℕ) × (number ≡ hint_number (word.Socket place)) × (value ≡ 0))
-
--- each store of the seat is an older one or one of the try
-abbrev pub StoresFor : Commanded → HintView → HintView → Type 0
-StoresFor g old new =
-    (n v : ℕ) → Contains new.steps (Store n v) → Contains old.steps (Store n v) ⊎ IsStoredBy g n v
-
-stores-none : (g : Commanded) (old new : HintView) → new ≡ old → StoresFor g old new
-stores-none g old new same n v has =
-    inl (subst (λ (s : HintView). Contains s.steps (Store n v)) same has)
-
-word_of : HintStep → ℕ
-word_of (Load n v) = n
-word_of (Store n v) = n
-word_of (ClearIf n v done) = n
-
-value_of : HintStep → ℕ
-value_of (Load n v) = v
-value_of (Store n v) = v
-value_of (ClearIf n v done) = v
-
-among-clears : (stores older : List HintStep) (n v : ℕ) → AreClears stores
-    → Contains (stores ++ older) (Store n v)
-    → Contains older (Store n v)
-    ⊎ ((place : ℕ) × (n ≡ hint_number (word.Socket place)) × (v ≡ 0))
-unfolding word_of value_of
-among-clears [] older n v are has = inl has
-among-clears (d ∷ ds) older n v are has =
-    elim (contains-cases d (ds ++ older) (Store n v) has) [
-      | inl e ↦
-          inr (length ds, ap word_of (sym e ∙ are.0), ap value_of (sym e ∙ are.0))
-      | inr more ↦ among-clears ds older n v are.1 more
-    ]
-
-clears-store : (g : Commanded) (answer : Answer) (old new : HintView)
-    → ClearsByAnswer answer old new → StoresFor g old new
-clears-store g says.Done old new (stores, are, all, is) = λ n v among.
-    elim (among-clears stores old.steps n v are
-    (subst (λ (s : HintView). Contains s.steps (Store n v)) is among)) [
-      | inl older ↦ inl older
-      | inr clear ↦ inr (inr (inr clear))
-    ]
-clears-store g (says.Busy why) old new is = stores-none g old new is
-clears-store g (says.Expired n) old new is = stores-none g old new is
-clears-store g (says.Idle why) old new is = stores-none g old new is
-clears-store g (says.CpuInUse user) old new is = stores-none g old new is
-clears-store g says.CpuOffline old new is = stores-none g old new is
-
-behind-store : (c : Command) (g : Commanded) (answer : Answer) (old new : HintView)
-    → HintsBehind c answer old new → StoresFor g old new
-behind-store (give.Sock size) g answer old new is = clears-store g answer old new is
-behind-store (give.Mask q mask) g answer old new is = stores-none g old new is
-behind-store (give.Flows q count) g answer old new is = stores-none g old new is
-behind-store (give.Offline cpu) g answer old new is = stores-none g old new is
-behind-store (give.Online cpu) g answer old new is = stores-none g old new is
-behind-store (give.XCpus tx mask) g answer old new is = stores-none g old new is
-behind-store (give.XQueues tx rxqs) g answer old new is = stores-none g old new is
-behind-store (give.Reta entry q) g answer old new is = stores-none g old new is
-behind-store (give.Stand app cpu) g answer old new is = stores-none g old new is
-behind-store give.Expire g answer old new is = stores-none g old new is
 
 -- ---- steps that set nothing
 
@@ -186,6 +118,7 @@ module _ (i : Input) (h : History) (hints : Shared) (rx tx : BoardView) where
     pub answered : IsAnswered i h
         (record { given = g; rx_steps = rx_steps; tx_steps = tx_steps }) why
     pub stored : StoresFor g old.hint new.hint
+    pub cleared : ClearsFilters i.plan.filters old.hint new.hint
 
   -- a try that did nothing
   refused_kept : (words : ℕ → ℕ) (c : Command) (why : Refused) (answer : Answer) (old new : Seats)
@@ -202,6 +135,7 @@ module _ (i : Input) (h : History) (hints : Shared) (rx tx : BoardView) where
         finds = inl tt;
         answered = is;
         stored = stores-none _ old.hint new.hint (ap (λ (s : Seats). s.hint) same);
+        cleared = clears-none i.plan.filters old.hint new.hint (ap (λ (s : Seats). s.hint) same);
       }
     where
       none-done : (why : Refused) → is_done (refused_answer why) ≡ false
@@ -283,7 +217,8 @@ module _ (i : Input) (h : History) (hints : Shared) (rx tx : BoardView) where
             ];
             answered = gated_answered rx.sizes h.lanes c a.gated.0 (as_set m) answer old.rx new.rx
                 t.0 t.0 [] boards.rx_seats (at.ends i) a.gated.2 t.2 (λ b. inl (at.lanes, b));
-            stored = behind-store c _ answer old.hint new.hint a.hint;
+            stored = behind-stores c answer old.hint new.hint a.hint;
+            cleared = behind-clears i.plan.filters c answer old.hint new.hint a.hint;
           }
 
       transmit_kept : (c : Command) (m : Change) (answer : Answer) (old new : Seats)
@@ -310,6 +245,7 @@ module _ (i : Input) (h : History) (hints : Shared) (rx tx : BoardView) where
                 new.tx t.0 [] t.0 boards.tx_seats (at.ends i) a.gated.2 t.2
                 (λ b. inr (at.lanes, b));
             stored = stores-none _ old.hint new.hint a.hint;
+            cleared = clears-none i.plan.filters old.hint new.hint a.hint;
           }
 
       -- a command that one store does
@@ -319,7 +255,6 @@ module _ (i : Input) (h : History) (hints : Shared) (rx tx : BoardView) where
           → IsStoredBy (record { command = c; answer = answer }) n v)
           → new ≡ record old { hint = after_step (Store number value) old.hint }
           → Kept words None (record { command = c; answer = answer }) old new
-      unfolding word_of value_of
       store_kept c number value answer old new received sent ends by is =
           record {
             rx_steps = [];
@@ -336,6 +271,10 @@ module _ (i : Input) (h : History) (hints : Shared) (rx tx : BoardView) where
                   | inl e ↦ inr (by n v (sym (ap word_of e)) (sym (ap value_of e)))
                   | inr older ↦ inl older
                 ];
+            cleared = λ n v done has.
+                inl (past-step (Store number value) (ClearIf n v done) old.hint.steps
+                (store-no-clear number value n v done)
+                (subst (λ (s : Seats). Contains s.hint.steps (ClearIf n v done)) is has));
           }
 
       at_once_kept : (c : Command) (answer : Answer) (old new : Seats)
@@ -382,6 +321,8 @@ module _ (i : Input) (h : History) (hints : Shared) (rx tx : BoardView) where
             finds = inl (refl, glances-none x.0 entered (refl, tt));
             answered = inl (count, done, few);
             stored = λ n v has. inl (g.stored n v has);
+            cleared = clears-more (length e.all.outcomes) i.plan.filters old.hint new.hint
+                (let n = e.all.all in omega (arith, n)) g.cleared;
           }
       at_once_kept (give.Mask r mask) answer old new none = absurd none
       at_once_kept (give.Flows r count) answer old new none = absurd none

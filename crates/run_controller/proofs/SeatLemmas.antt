@@ -1,5 +1,5 @@
 -- The controller's seats after a try.
-use Rattle.std.proofs.Common.{◌≡◌, inl, inr, ℕ, ◌+◌, ◌*◌, ◌^◌, ◌≤◌, Bool, true}
+use Rattle.std.proofs.Common.{◌≡◌, ◌⊎◌, inl, inr, ℕ, suc, ◌+◌, ◌*◌, ◌^◌, ◌≤◌, Bool, true}
 use Rattle.std.proofs.Common.{false, List, [], ◌∷◌, ◌++◌, Option, Some, None, length, refl, sym, ap}
 use Rattle.std.proofs.Common.{subst, ◌∙◌, arith}
 use Rattle.std.specs.List.{Contains}
@@ -9,7 +9,6 @@ use Rattle.steer_base.specs.declared.command.Answer.TheVariants as says
 use Rattle.steer_base.specs.declared.command.Busy.TheVariants.{Inside, NotEmpty}
 use Rattle.steer_base.specs.declared.cpu_mask.CpuMask.{CpuMask}
 use Rattle.steer_base.specs.declared.filter.Filter.{Filter}
-use Rattle.hint_words.specs.declared.step.HintStep.{HintStep}
 use Rattle.hint_words.specs.declared.step.HintStep.TheVariants.{ClearIf, Load, Store}
 use Rattle.hop_rule.specs.Boards.{gate_steps}
 use Rattle.hop_rule.specs.Gates.{closed, openings, visit}
@@ -31,6 +30,9 @@ use Rattle.run_words.specs.declared.shared.Shared.{Shared}
 use Rattle.run_coupling.proofs.Tries.EmptiedLemmas.{gates-looking}
 use Rattle.run_controller.specs.Gated.{IsGated}
 use Rattle.run_words.specs.HintViews.{HintView, after_step}
+use Rattle.run_controller.proofs.HintLemmas.{ClearsFilters, clear-no-store, clears-more}
+use Rattle.run_controller.proofs.HintLemmas.{clears-none, clears-on, load-no-clear, load-no-store}
+use Rattle.run_controller.proofs.HintLemmas.{past-step, word_of}
 use Rattle.run_controller.proofs.ListLemmas.{contains-cases}
 use Rattle.run_controller.specs.Expiries.{ClearsIf, Expires, ExpiresFirst, ExpiresOne, LooksAt}
 use Rattle.run_controller.specs.Stages.{IsSeated, opened_by}
@@ -170,55 +172,46 @@ pub openings-glances : (xs : List Glance) (ds : List BoardStep)
 openings-glances [] ds = refl
 openings-glances (x ∷ xs) ds = openings-glances xs ds
 
--- the seats after these glances; the hint words were loaded and cleared, and nothing was stored
-pub record Glanced (old new : BoardSeatView) (hint_old hint_new : HintView) : Type 0 where
+-- the seats after these glances; the hint words were loaded, the words of filters, of so many, were
+-- cleared, and nothing was stored
+pub record Glanced (filters : ℕ) (old new : BoardSeatView) (hint_old hint_new : HintView)
+    : Type 0 where
   pub seen : List Glance
   pub steps : new.steps ≡ glances seen ++ old.steps
   pub table : new.table ≡ old.table
   pub number : new.number ≡ old.number
   pub hint_table : hint_new.table ≡ hint_old.table
   pub stored : (n v : ℕ) → Contains hint_new.steps (Store n v) → Contains hint_old.steps (Store n v)
+  pub cleared : ClearsFilters filters hint_old hint_new
 
--- a load and a clear are no store
-is_store : HintStep → ℕ
-is_store (Load n v) = 0
-is_store (Store n v) = 1
-is_store (ClearIf n v done) = 0
-
-past-load : (m w n v : ℕ) (steps : List HintStep) → Contains (Load m w ∷ steps) (Store n v)
-    → Contains steps (Store n v)
-unfolding is_store
-past-load m w n v steps c = elim (contains-cases (Load m w) steps (Store n v) c) [
-  | inl e ↦ (let z = ap is_store e in absurd (omega arith))
-  | inr older ↦ older
-]
-
-past-clear : (m w n v : ℕ) (done : Bool) (steps : List HintStep)
-    → Contains (ClearIf m w done ∷ steps) (Store n v) → Contains steps (Store n v)
-unfolding is_store
-past-clear m w n v done steps c = elim (contains-cases (ClearIf m w done) steps (Store n v) c) [
-  | inl e ↦ (let z = ap is_store e in absurd (omega arith))
-  | inr older ↦ older
-]
-
--- a clear leaves the stores
+-- a clear leaves the stores, and clears its word alone
 clears : (b : Bool) (number value : ℕ) (old new : HintView) (cleared : Bool)
     → ClearsIf b number value old new cleared
     → (new.table ≡ old.table)
     × ((n v : ℕ) → Contains new.steps (Store n v) → Contains old.steps (Store n v))
+    × ((n v : ℕ) (done : Bool) → Contains new.steps (ClearIf n v done)
+    → Contains old.steps (ClearIf n v done) ⊎ (n ≡ number))
 clears true number value old new cleared is = (
   ap (λ (s : HintView). s.table) is,
-  λ n v has. past-clear number value n v cleared old.steps
+  λ n v has. past-step (ClearIf number value cleared) (Store n v) old.steps
+      (clear-no-store number value n v cleared)
       (subst (λ (s : HintView). Contains s.steps (Store n v)) is has),
+  λ n v done has.
+      elim (contains-cases (ClearIf number value cleared) old.steps (ClearIf n v done)
+      (subst (λ (s : HintView). Contains s.steps (ClearIf n v done)) is has)) [
+        | inl e ↦ inr (sym (ap word_of e))
+        | inr older ↦ inl older
+      ],
 )
 clears false number value old new cleared is = (
   ap (λ (s : HintView). s.table) is.0,
   λ n v has. subst (λ (s : HintView). Contains s.steps (Store n v)) is.0 has,
+  λ n v done has. inl (subst (λ (s : HintView). Contains s.steps (ClearIf n v done)) is.0 has),
 )
 
-no_glance : (old new : BoardSeatView) (hint_old hint_new : HintView) → new ≡ old
-    → hint_new ≡ hint_old → Glanced old new hint_old hint_new
-no_glance old new hint_old hint_new same hint =
+no_glance : (filters : ℕ) (old new : BoardSeatView) (hint_old hint_new : HintView) → new ≡ old
+    → hint_new ≡ hint_old → Glanced filters old new hint_old hint_new
+no_glance filters old new hint_old hint_new same hint =
     record {
       seen = [];
       steps = ap (λ (s : BoardSeatView). s.steps) same;
@@ -226,14 +219,15 @@ no_glance old new hint_old hint_new same hint =
       number = ap (λ (s : BoardSeatView). s.number) same;
       hint_table = ap (λ (s : HintView). s.table) hint;
       stored = λ n v has. subst (λ (s : HintView). Contains s.steps (Store n v)) hint has;
+      cleared = clears-none filters hint_old hint_new hint;
     }
 
 looks_glance : (shared : Shared) (place value : ℕ) (f : Option Filter) (old new : BoardSeatView)
     (hint_old hint_new : HintView) (cleared : Bool)
     → LooksAt shared place value f old new hint_old hint_new cleared
-    → Glanced old new hint_old hint_new
+    → Glanced (suc place) old new hint_old hint_new
 looks_glance shared place value None old new hint_old hint_new cleared (same, hint, is) =
-    no_glance old new hint_old hint_new same hint
+    no_glance (suc place) old new hint_old hint_new same hint
 looks_glance shared place value (Some f) old new hint_old hint_new cleared
     (head, flows, adds, clear) =
     let index : ℕ = receive_number (length shared.given.homes) (receive.Flows f.queue) in
@@ -246,11 +240,15 @@ looks_glance shared place value (Some f) old new hint_old hint_new cleared
       number = ap (λ (s : BoardSeatView). s.number) adds;
       hint_table = hints.0;
       stored = hints.1;
+      cleared = λ n v done has. elim (hints.2 n v done has) [
+        | inl older ↦ inl older
+        | inr is ↦ inr (place, omega arith, is)
+      ];
     }
 
 one_glance : (shared : Shared) (place : ℕ) (old new : BoardSeatView) (hint_old hint_new : HintView)
     (cleared : Bool) → ExpiresOne shared place old new hint_old hint_new cleared
-    → Glanced old new hint_old hint_new
+    → Glanced (suc place) old new hint_old hint_new
 one_glance shared place old new hint_old hint_new cleared (value, looks) =
     let number : ℕ = hint_number (word.Filter place) in
     let g = looks_glance shared place value
@@ -262,14 +260,20 @@ one_glance shared place old new hint_old hint_new cleared (value, looks) =
       table = g.table;
       number = g.number;
       hint_table = g.hint_table;
-      stored = λ n v has. past-load number value n v hint_old.steps (g.stored n v has);
+      stored = λ n v has. past-step (Load number value) (Store n v) hint_old.steps
+          (load-no-store number value n v) (g.stored n v has);
+      cleared = λ n v done has. elim (g.cleared n v done has) [
+        | inl older ↦ inl (past-step (Load number value) (ClearIf n v done) hint_old.steps
+            (load-no-clear number value n v done) older)
+        | inr filter ↦ inr filter
+      ];
     }
 
 pub first_glances : (shared : Shared) (outcomes : List Bool) (old new : BoardSeatView)
     (hint_old hint_new : HintView) → ExpiresFirst shared outcomes old new hint_old hint_new
-    → Glanced old new hint_old hint_new
+    → Glanced (length outcomes) old new hint_old hint_new
 first_glances shared [] old new hint_old hint_new (same, hint) =
-    no_glance old new hint_old hint_new same hint
+    no_glance 0 old new hint_old hint_new same hint
 first_glances shared (cleared ∷ rest) old new hint_old hint_new (mid, hint_mid, older, one) =
     let a = first_glances shared rest old mid hint_old hint_mid older in
     let b = one_glance shared (length rest) mid new hint_mid hint_new cleared one in
@@ -281,6 +285,9 @@ first_glances shared (cleared ∷ rest) old new hint_old hint_new (mid, hint_mid
       number = b.number ∙ a.number;
       hint_table = b.hint_table ∙ a.hint_table;
       stored = λ n v has. a.stored n v (b.stored n v has);
+      cleared = clears-on (suc (length rest)) hint_old hint_mid hint_new
+          (clears-more (length rest) (suc (length rest)) hint_old hint_mid (omega arith) a.cleared)
+          b.cleared;
     }
   where
     glances-append : (xs ys : List Glance) (ds : List BoardStep)

@@ -1,8 +1,9 @@
 -- What the controller's journal and its seats say at the closing of a run.
-use Rattle.std.specs.Prelude.{◌≡◌, ◌⊎◌, ℕ, ◌+◌, List, [], length}
+use Rattle.std.specs.Prelude.{◌≡◌, ◌⊎◌, ℕ, ◌+◌, ◌<◌, Bool, List, [], length}
 use Rattle.std.specs.List.{Contains}
 use Rattle.steer_base.specs.declared.command.Command.TheVariants as give
-use Rattle.hint_words.specs.declared.step.HintStep.TheVariants.{Store}
+use Rattle.steer_base.specs.declared.limits.TheConstants.{MAX_SOCKET_SIZE}
+use Rattle.hint_words.specs.declared.step.HintStep.TheVariants.{ClearIf, Store}
 use Rattle.history.specs.declared.history.History.{History}
 use Rattle.plan_reader.specs.Ranges.{commands_of}
 use Rattle.hop_rule.specs.Gates.{own_settings}
@@ -27,19 +28,20 @@ use Rattle.run_words.specs.declared.seats.Seats.{Seats}
 
 -- What a store of the controller is: the queue that a done command gave an entry of the redirection
 -- table, the processor to which a done command moved an application, or the clear of an entry of
--- the socket flow table.
+-- the socket flow table, whose size a done command set.
 abbrev pub IsStoredFor : History → HintCodes → ℕ → ℕ → Type 0
 IsStoredFor h c number value =
     ((entry : ℕ) × (q : ℕ) × (number ≡ c.entry entry) × (value ≡ c.place q)
     × WasDone h (give.Reta entry q))
     ⊎ ((app : ℕ) × (cpu : ℕ) × (number ≡ c.stand app) × (value ≡ c.place cpu)
     × WasDone h (give.Stand app cpu))
-    ⊎ ((place : ℕ) × (number ≡ c.socket place) × (value ≡ 0))
+    ⊎ ((place : ℕ) × (size : ℕ) × (place < MAX_SOCKET_SIZE) × (number ≡ c.socket place)
+    × (value ≡ 0) × WasDone h (give.Sock size))
 
 -- The coupling invariants of the controller: all steps of its seats at the boards are those of its
 -- tries, each try set and opened as its answer says, the lanes were found empty before a setting
--- was made, the commands are those of the plan and each answer has its cause, and each store has
--- its command.
+-- was made, the commands are those of the plan and each answer has its cause, each store has its
+-- command, and no other word than that of a filter was cleared by a step that compares.
 pub record CommandsAreCoupled (i : Input) (h : History) (rx tx : BoardSizes)
     (rx_own tx_own : ℕ → List BoardStep) (c : HintCodes) (hint : HintView) (tries : List Try)
     : Type 0 where
@@ -49,6 +51,8 @@ pub record CommandsAreCoupled (i : Input) (h : History) (rx tx : BoardSizes)
   pub commands : KeepsCommands i h tries
   pub stored : (number value : ℕ) → Contains hint.steps (Store number value)
       → IsStoredFor h c number value
+  pub cleared : (word value : ℕ) (done : Bool) → Contains hint.steps (ClearIf word value done)
+      → (place : ℕ) × (place < i.plan.filters) × (word ≡ c.filter place)
 
 -- The two boards of a run: a lane of the receive board for each processor and of the transmit board
 -- for each transmit queue, as many as the history has; a seat for each worker and one for the

@@ -9,5 +9,6 @@ pub mod Queues
 pub mod Deliveries
 pub mod Applications
 pub mod Hints
+pub mod Marks
 pub mod Ends
 pub mod Runs

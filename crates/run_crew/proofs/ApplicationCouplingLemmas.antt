@@ -12,6 +12,7 @@ use Rattle.std.proofs.lemmas.List.{length-map, map-append}
 use Rattle.std.proofs.lemmas.List.Elements.{All-cons, All-head, All-nil, All-tail}
 use Rattle.std.proofs.lemmas.List.FromFn.{length-range_with_len}
 use Rattle.std.proofs.lemmas.Option.{get_or_from_slice_get, slice_get-map, slice_get_within}
+use Rattle.linearization.specs.Orders.{StepBy, steps_of}
 use Rattle.linearization.specs.Seats.{SeatView}
 use Rattle.steer_base.specs.Choices.{class_of, looks_at_head, migrate}
 use Rattle.steer_base.specs.Sends.{first_filled, pick_of}
@@ -39,7 +40,7 @@ use Rattle.hop_rule.specs.declared.step.BoardStep.TheVariants.{Gate, Lane, Weigh
 use Rattle.hop_rule.specs.declared.step.GateStep.TheVariants.{Read}
 use Rattle.hop_rule.specs.declared.step.LaneStep.TheVariants.{OutHeld}
 use Rattle.hop_rule.proofs.Lists.{none-some, some-is}
-use Rattle.hop_rule.proofs.Moments.{nth-between, nth-member, past-between}
+use Rattle.hop_rule.proofs.Moments.{nth-between, past-between}
 use Rattle.hop_delivery.specs.Closings.TurnReads.{KnowsMaps}
 use Rattle.hop_delivery.specs.Orders.ReceiveSettings.{mask}
 use Rattle.hop_delivery.specs.Orders.Runs.{Steering, Execution, turns_of}
@@ -49,7 +50,9 @@ use Rattle.plan_reader.specs.declared.plan.QueuePlan.{QueuePlan}
 use Rattle.steer_model.specs.Good.Inputs.{Input, setup_in}
 use Rattle.steer_model.specs.State.Setup.{Setup, flow_number_of, packet_hash}
 use Rattle.run_words.specs.Values.{cpus_in, place_in, queues_in, socket_size_in}
-use Rattle.run_words.specs.declared.hint_word.TheConstants.{QUEUE_WORDS, STAND_WORDS}
+use Rattle.run_words.specs.Numbers.{hint_number}
+use Rattle.run_words.specs.declared.hint_word.HintWord.TheVariants as hint
+use Rattle.run_words.specs.declared.hint_word.TheConstants.{STAND_WORDS}
 use Rattle.run_workers.specs.Hands.Pollers.{LoadedHead}
 use Rattle.run_workers.specs.Hands.Servers.{HasFlowsBelow, queue_by, queue_if}
 use Rattle.run_workers.specs.declared.server.Server.{Server}
@@ -61,7 +64,8 @@ use Rattle.run_coupling.specs.Coupling.Hints.{WasLoaded, WasRead}
 use Rattle.run_coupling.specs.Coupling.OwnTables.{IsByTable, table_before}
 use Rattle.run_coupling.proofs.Runs.CodeLemmas.{word-says}
 use Rattle.run_words.specs.Lists.{oldest_first}
-use Rattle.run_crew.specs.ApplicationCoupling.{ApplicationsAreCoupled, IsApplicationCoupled}
+use Rattle.run_crew.specs.ApplicationCoupling.{AreMadeFor, ApplicationsAreCoupled}
+use Rattle.run_crew.specs.ApplicationCoupling.{IsApplicationCoupled}
 use Rattle.run_crew.specs.ApplicationCoupling.{maps_seen}
 use Rattle.run_crew.specs.ApplicationCoupling.{words_of_reply}
 use Rattle.run_workers.specs.Records.Growth.{held}
@@ -70,9 +74,12 @@ use Rattle.run_workers.specs.Records.Replying.{HasReadInside}
 use Rattle.run_workers.specs.Records.Replying.{HasStood, IsReplied, IsReplying, HasWritten}
 use Rattle.run_workers.specs.Records.Replying.{RepliedTurn}
 use Rattle.run_workers.specs.Records.Replying.{replies_in, replied_table, taken_by, reply_turns}
+use Rattle.run_workers.specs.Records.Words.{Note}
 use Rattle.run_workers.proofs.Records.ListLemmas.{append_none}
+use Rattle.run_crew.proofs.ChoiceFunctions.{at-place}
+use Rattle.run_crew.proofs.NoteLemmas.{made-for}
 use Rattle.run_crew.proofs.RuleLemmas.{rule_looks, rule_want}
-use Rattle.run_crew.proofs.TurnListLemmas.{TurnAt, front, place, since_more, turn_at}
+use Rattle.run_crew.proofs.TurnListLemmas.{TurnAt, front, has_number, place, since_more, turn_at}
 
 -- without an entry for a hash the size is 0
 no_size : (n hash : ℕ) → class_of n (Some hash) ≡ None → n ≡ 0
@@ -82,13 +89,8 @@ no_size n hash is = by_test (nat_lt 0 n) refl is
     by_test true some is = none-some (hash % n) (sym is)
     by_test false none is = grind (arith, nat_tests)
 
--- a step of a list has a number
-has_number : {A : Type 0} (xs : List A) (d : A) → Contains xs d
-    → (k : ℕ) × (nth_step xs k ≡ Some d)
-has_number xs d (j, less, is) = (
-  length xs - suc j,
-  nth-member xs j d less ∙ ap (λ z. Some z) is,
-)
+abbrev write_of : Note → SockWrite
+write_of n = n.write
 
 module _ (i : Input) (h : History) (rx_own : ℕ → List BoardStep) (rx_seat : ℕ) (c : HintCodes)
     (seats : List (SeatView HintStep)) (seat : SeatView HintStep) (codes : AreShared c)
@@ -163,7 +165,7 @@ module _ (i : Input) (h : History) (rx_own : ℕ → List BoardStep) (rx_seat : 
           by_id false is = none-some rxq is
 
       was : WasLoaded seats (c.packet id) word
-      was = loaded (c.packet id) word (QUEUE_WORDS + id) word has (codes.packet id) refl
+      was = loaded (c.packet id) word (hint_number (hint.Queue id)) word has (codes.packet id) refl
 
       says : (o : Option ℕ) → place_in word (length given.homes) ≡ o
           → Says c (length i.plan.queues) word o
@@ -193,40 +195,41 @@ module _ (i : Input) (h : History) (rx_own : ℕ → List BoardStep) (rx_seat : 
       }
 
   pub recorded : (a home : ℕ) → slice_get i.plan.apps a ≡ Some home → (xs : List ℕ)
-      (ws : List SockWrite) → HasWrittenAll given a home (rx_own rx_seat) seat.steps xs ws
-      → AreRecorded i h c seats rx_own a xs ws
-  recorded a home is [] ws none = none
-  recorded a home is (x ∷ xs) ws (size, rest, read, one, more) =
+      (ns : List Note) → HasWrittenAll given a home (rx_own rx_seat) seat.steps xs ns
+      → AreRecorded i h c seats rx_own a xs (map write_of ns)
+  recorded a home is [] ns none = ap (map write_of) none
+  recorded a home is (x ∷ xs) ns (size, rest, read, one, more) =
       by_hash (recorded a home is xs rest more) (packet_hash given x) refl (nat_le size 65536) refl
     where
-      written : (entry : Option ℕ) → HasWritten given a home (rx_own rx_seat) seat.steps entry rest
-          ws
-          → (entry ≡ None) × (ws ≡ rest) ⊎ ((e : ℕ) × (w : SockWrite) × (entry ≡ Some e)
-          × (w.entry ≡ e) × (ws ≡ w ∷ rest) × Stands i h c seats a w.cpu)
-      written None same = inl (refl, same)
+      written : (entry : Option ℕ)
+          → HasWritten given a home (rx_own rx_seat) seat.steps x entry rest ns
+          → (entry ≡ None) × (map write_of ns ≡ map write_of rest)
+          ⊎ ((e : ℕ) × (w : SockWrite) × (entry ≡ Some e) × (w.entry ≡ e)
+          × (map write_of ns ≡ w ∷ map write_of rest) × Stands i h c seats a w.cpu)
+      written None same = inl (refl, ap (map write_of) same)
       written (Some e) (cpu, stood, same) = inr (
         e,
         record { entry = e; cpu = cpu },
         refl,
         refl,
-        same,
+        ap (map write_of) same,
         stood_at a home cpu is stood,
       )
 
-      by_hash : AreRecorded i h c seats rx_own a xs rest → (o : Option ℕ) → packet_hash given x ≡ o
-          → (b : Bool) → nat_le size 65536 ≡ b
-          → AreRecorded i h c seats rx_own a (x ∷ xs) ws
+      by_hash : AreRecorded i h c seats rx_own a xs (map write_of rest) → (o : Option ℕ)
+          → packet_hash given x ≡ o → (b : Bool) → nat_le size 65536 ≡ b
+          → AreRecorded i h c seats rx_own a (x ∷ xs) (map write_of ns)
       by_hash later None none b small =
           inl (
             none,
             subst (AreRecorded i h c seats rx_own a xs)
-                (sym (subst (λ o. HasWritten given a home (rx_own rx_seat) seat.steps
-                (class_of (socket_size_in size) o) rest ws) none one)) later,
+                (sym (ap (map write_of) (subst (λ o. HasWritten given a home (rx_own rx_seat)
+                seat.steps x (class_of (socket_size_in size) o) rest ns) none one))) later,
           )
       by_hash later (Some hash) some true small =
           elim (written (class_of size (Some hash))
-          (subst (λ (z : Option ℕ × ℕ). HasWritten given a home (rx_own rx_seat) seat.steps
-          (class_of z.1 z.0) rest ws)
+          (subst (λ (z : Option ℕ × ℕ). HasWritten given a home (rx_own rx_seat) seat.steps x
+          (class_of z.1 z.0) rest ns)
           (λ j. (some j, ap (λ (b : Bool). if b then size else 0) small j)) one)) [
             | inl none ↦ inr (inr (
               hash,
@@ -239,7 +242,7 @@ module _ (i : Input) (h : History) (rx_own : ℕ → List BoardStep) (rx_seat : 
             | inr w ↦ inr (inl (
               hash,
               w.1,
-              rest,
+              map write_of rest,
               size,
               some,
               w.4,
@@ -257,9 +260,9 @@ module _ (i : Input) (h : History) (rx_own : ℕ → List BoardStep) (rx_seat : 
             read_at size read,
             λ le. absurd (beyond size small le),
             subst (AreRecorded i h c seats rx_own a xs)
-                (sym (subst (λ (z : Option ℕ × ℕ). HasWritten given a home (rx_own rx_seat)
-                seat.steps (class_of z.1 z.0) rest ws)
-                (λ j. (some j, ap (λ (b : Bool). if b then size else 0) small j)) one)) later,
+                (sym (ap (map write_of) (subst (λ (z : Option ℕ × ℕ). HasWritten given a home
+                (rx_own rx_seat) seat.steps x (class_of z.1 z.0) rest ns)
+                (λ j. (some j, ap (λ (b : Bool). if b then size else 0) small j)) one))) later,
           ))
         where
           beyond : (n : ℕ) → nat_le n 65536 ≡ false → n ≤ 65536 → ⊥
@@ -298,7 +301,9 @@ table_told rows start (r ∷ rs) =
 
 module _ (i : Input) (about : BoardSizes) (own : List BoardStep) (arrivals : List Arrival)
     (rx : List BoardStep) (hints : List HintStep) (t : Execution) (rows : ℕ) (s : Server)
-    (x : IsReplying (setup_in i) rows about.start arrivals s (t.turns (t.seat s.app)) rx hints)
+    (noted : List (StepBy Note))
+    (x : IsReplying (setup_in i) rows about.start arrivals s (t.turns (t.seat s.app)) noted rx
+    hints)
     (below : HasFlowsBelow (setup_in i) s.sent.room rows) where
   abbrev plan_setup : Setup
   plan_setup = setup_in i
@@ -460,8 +465,8 @@ module _ (i : Input) (about : BoardSizes) (own : List BoardStep) (arrivals : Lis
 module _ (i : Input) (h : History) (rx_own : ℕ → List BoardStep) (rx_seat : ℕ)
     (about : BoardSizes) (own : List BoardStep) (c : HintCodes)
     (seats : List (SeatView HintStep)) (seat : SeatView HintStep) (t : Execution) (rows : ℕ)
-    (s : Server)
-    (x : IsReplying (setup_in i) rows about.start h.arrivals s (t.turns (t.seat s.app))
+    (s : Server) (noted : List (StepBy Note))
+    (x : IsReplying (setup_in i) rows about.start h.arrivals s (t.turns (t.seat s.app)) noted
     (rx_own rx_seat) seat.steps) where
   each : (P : Sent → Type 0) (rs : List RepliedTurn)
       → ((r : RepliedTurn) (b : List RepliedTurn)
@@ -484,66 +489,77 @@ module _ (i : Input) (h : History) (rx_own : ℕ → List BoardStep) (rx_seat : 
   coupled : AllArrived i h → HasFlowsBelow (setup_in i) s.sent.room rows
       → slice_get i.plan.apps s.app ≡ Some s.home → AreShared c → Contains seats seat
       → s.hand ≡ None
-      → IsApplicationCoupled i h rx_own about own c seats t s.app s.sent.items s.writes.items
-      (maps_seen x.replied)
+      → (reply : ℕ → ℕ) × IsApplicationCoupled i h rx_own about own c seats t s.app noted
+      s.sent.items s.writes.items (maps_seen x.replied) reply
   coupled arrived below home codes among empty =
       let taken : taken_by s ≡ map (λ (z : Sent). z.id) s.sent.items =
       ap (λ o. map (λ (z : Sent). z.id) s.sent.items ++ held o) empty
       ∙ append_none (map (λ (z : Sent). z.id) s.sent.items) in
-      record {
-        found = λ k z there.
-            found_at i h rx_own rx_seat c seats seat codes among s.app k z.id
-            (x.found k z.id (ap (λ zs. slice_get zs k) taken
-            ∙ (slice_get-map (λ (z : Sent). z.id) s.sent.items k
-            ∙ ap (option_map (λ (z : Sent). z.id)) there)));
-        knows = λ k u is.
-            (let z = at i about own h.arrivals (rx_own rx_seat) seat.steps t rows s x below k u is
-            in
-            subst (λ (v : Turn × ℕ). KnowsMaps own (length i.plan.tx) v.0 (maps_seen x.replied v.1))
-            (λ j. (z.turn_is j, z.before j))
-            (knows_all i about own h.arrivals (rx_own rx_seat) seat.steps t rows s x below z.newer
-            z.s z.older z.are));
-        picks = λ k u sent is there fit.
-            (let z = at i about own h.arrivals (rx_own rx_seat) seat.steps t rows s x below k u is
-            in
-            let same = sent_is i about own h.arrivals (rx_own rx_seat) seat.steps t rows s x below
-            z.newer z.s z.older z.are sent
-            (ap (λ n. slice_get s.sent.items n) z.before ∙ there) in
-            subst (λ (v : Turn × (ℕ × Sent)). v.0.chosen.choice.want
-            ≡ Some (pick_by (length i.plan.tx) (maps_seen x.replied v.1.0) v.1.1.rxq v.1.1.cpu
-            (packet_hash (setup_in i) v.1.1.id)))
-            (λ j. (z.turn_is j, (z.before j, same j)))
-            (want_is i about own h.arrivals (rx_own rx_seat) seat.steps t rows s x below z.newer z.s
-            z.older z.are
-            ∙ ap (λ n. Some n)
-            (pick_is i about own h.arrivals (rx_own rx_seat) seat.steps t rows s x below z.newer z.s
-            z.older z.are
-            (subst (λ n. FitTransmitWords i.plan.cpus (length i.plan.queues) (length i.plan.tx)
-            (maps_seen x.replied n)) (sym z.before) fit))));
-        by_table = λ k u is.
-            (let z = at i about own h.arrivals (rx_own rx_seat) seat.steps t rows s x below k u is
-            in
-            subst (λ (v : Turn × ℕ). IsByTable about.start t
-            (transmit_steering (flow_number_of (setup_in i))) (maps_seen x.replied) s.app v.1 v.0)
-            (λ j. (z.turn_is j, z.before j))
-            (reply_by_table i about own h.arrivals (rx_own rx_seat) seat.steps t rows s x below
-            z.newer z.s z.older z.are));
-        queues = subst (All (λ (z : Sent). CameBy i h c seats z.id z.rxq)) (sym x.replies)
-            (each (λ (z : Sent). CameBy i h c seats z.id z.rxq) x.replied
-            (λ r b y. came_by i h rx_own rx_seat c seats seat codes among r.sent.id r.sent.rxq
-            arrived y.came) x.are);
-        stands = subst (All (λ (z : Sent). Stands i h c seats s.app z.cpu)) (sym x.replies)
-            (each (λ (z : Sent). Stands i h c seats s.app z.cpu) x.replied
-            (λ r b y. stood_at i h rx_own rx_seat c seats seat codes among s.app s.home r.sent.cpu
-            home y.stood) x.are);
-        writes_are = subst (λ zs. AreRecorded i h c seats rx_own s.app zs s.writes.items) taken
-            (recorded i h rx_own rx_seat c seats seat codes among s.app s.home home (taken_by s)
-            s.writes.items x.writes);
-      }
+      let notes : List Note = oldest_first (steps_of s.app noted) in
+      let made = made-for i s.app s.home (rx_own rx_seat) seat.steps
+      (at-place (λ cpu. cpu < i.plan.cpus) i.plan.apps s.app s.home i.plan.within.apps_within home)
+      s.sent.items notes
+      (subst (λ ids. HasWrittenAll (setup_in i) s.app s.home (rx_own rx_seat) seat.steps ids notes)
+      taken x.notes) in (
+        made.0,
+        record {
+          found = λ k z there.
+              found_at i h rx_own rx_seat c seats seat codes among s.app k z.id
+              (x.found k z.id (ap (λ zs. slice_get zs k) taken
+              ∙ (slice_get-map (λ (z : Sent). z.id) s.sent.items k
+              ∙ ap (option_map (λ (z : Sent). z.id)) there)));
+          knows = λ k u is.
+              (let z = at i about own h.arrivals (rx_own rx_seat) seat.steps t rows s noted x below
+              k u is in
+              subst (λ (v : Turn × ℕ).
+              KnowsMaps own (length i.plan.tx) v.0 (maps_seen x.replied v.1))
+              (λ j. (z.turn_is j, z.before j))
+              (knows_all i about own h.arrivals (rx_own rx_seat) seat.steps t rows s noted x below
+              z.newer z.s z.older z.are));
+          picks = λ k u sent is there fit.
+              (let z = at i about own h.arrivals (rx_own rx_seat) seat.steps t rows s noted x below
+              k u is in
+              let same = sent_is i about own h.arrivals (rx_own rx_seat) seat.steps t rows s noted x
+              below z.newer z.s z.older z.are sent
+              (ap (λ n. slice_get s.sent.items n) z.before ∙ there) in
+              subst (λ (v : Turn × (ℕ × Sent)). v.0.chosen.choice.want
+              ≡ Some (pick_by (length i.plan.tx) (maps_seen x.replied v.1.0) v.1.1.rxq v.1.1.cpu
+              (packet_hash (setup_in i) v.1.1.id)))
+              (λ j. (z.turn_is j, (z.before j, same j)))
+              (want_is i about own h.arrivals (rx_own rx_seat) seat.steps t rows s noted x below
+              z.newer z.s z.older z.are
+              ∙ ap (λ n. Some n)
+              (pick_is i about own h.arrivals (rx_own rx_seat) seat.steps t rows s noted x below
+              z.newer z.s z.older z.are
+              (subst (λ n. FitTransmitWords i.plan.cpus (length i.plan.queues) (length i.plan.tx)
+              (maps_seen x.replied n)) (sym z.before) fit))));
+          by_table = λ k u is.
+              (let z = at i about own h.arrivals (rx_own rx_seat) seat.steps t rows s noted x below
+              k u is in
+              subst (λ (v : Turn × ℕ). IsByTable about.start t
+              (transmit_steering (flow_number_of (setup_in i))) (maps_seen x.replied) s.app v.1 v.0)
+              (λ j. (z.turn_is j, z.before j))
+              (reply_by_table i about own h.arrivals (rx_own rx_seat) seat.steps t rows s noted x
+              below z.newer z.s z.older z.are));
+          queues = subst (All (λ (z : Sent). CameBy i h c seats z.id z.rxq)) (sym x.replies)
+              (each (λ (z : Sent). CameBy i h c seats z.id z.rxq) x.replied
+              (λ r b y. came_by i h rx_own rx_seat c seats seat codes among r.sent.id r.sent.rxq
+              arrived y.came) x.are);
+          stands = subst (All (λ (z : Sent). Stands i h c seats s.app z.cpu)) (sym x.replies)
+              (each (λ (z : Sent). Stands i h c seats s.app z.cpu) x.replied
+              (λ r b y. stood_at i h rx_own rx_seat c seats seat codes among s.app s.home r.sent.cpu
+              home y.stood) x.are);
+          writes_are = subst (λ (z : List ℕ × List SockWrite).
+              AreRecorded i h c seats rx_own s.app z.0 z.1) (λ j. (taken j, sym x.writes j))
+              (recorded i h rx_own rx_seat c seats seat codes among s.app s.home home (taken_by s)
+              notes x.notes);
+          made = λ within. subst (λ ws. AreMadeFor i s.sent.items ws notes made.0) (sym x.writes)
+              made.1;
+        },
+      )
 
 pub applications_are_coupled : ApplicationsAreCoupled
-applications_are_coupled i h rx_own rx_seat about own c seats seat t rows s x arrived below home
-    codes
-    among empty =
-    coupled i h rx_own rx_seat about own c seats seat t rows s x arrived below home codes among
-    empty
+applications_are_coupled i h rx_own rx_seat about own c seats seat t rows s noted x arrived below
+    home codes among empty =
+    coupled i h rx_own rx_seat about own c seats seat t rows s noted x arrived below home codes
+    among empty

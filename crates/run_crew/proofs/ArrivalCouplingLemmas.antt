@@ -2,7 +2,8 @@
 use Rattle.std.proofs.Common.{◌≡◌, ◌⊎◌, inl, inr, ℕ, zero, suc, ◌%◌, ◌<◌, ◌==◌, Bool, true, false}
 use Rattle.std.proofs.Common.{List, [], ◌∷◌, ◌++◌, Option, Some, None, length, map, All, ◌+◌, ◌≤◌}
 use Rattle.std.proofs.Common.{refl, sym, ap, subst, ◌∙◌, arith, leb-false}
-use Rattle.std.specs.Prelude.{◌||◌, ◌-◌, ◌/◌, ◌^◌, drop, if◌then◌else◌, nat_le, slice_index}
+use Rattle.std.specs.Prelude.{◌||◌, ◌-◌, ◌/◌, ◌^◌, drop, if◌then◌else◌, nat_le, slice_get}
+use Rattle.std.specs.Prelude.{slice_index}
 use Rattle.std.specs.Prelude.{unwrap_or}
 use Rattle.std.specs.List.{Contains, range_with_len}
 use Rattle.std.proofs.lemmas.List.{length-map}
@@ -20,7 +21,9 @@ use Rattle.history.specs.Regular.{route_of}
 use Rattle.history.proofs.FindingLemmas.{found-here, found-past}
 use Rattle.history.specs.declared.arrival.Arrival.{Arrival}
 use Rattle.history.specs.declared.history.History.{History}
+use Rattle.hop_rule.specs.Moments.{nth_step}
 use Rattle.hop_rule.proofs.Lists.{none-some, some-is}
+use Rattle.hop_rule.proofs.Moments.{nth-first, nth-inside, nth-old}
 use Rattle.plan_reader.specs.declared.plan.QueuePlan.{QueuePlan}
 use Rattle.run_words.specs.Numbers.{hint_number}
 use Rattle.run_words.specs.Values.{filter_in, place_in, place_word}
@@ -35,7 +38,10 @@ use Rattle.run_coupling.specs.Coupling.Hints.{WasLoaded}
 use Rattle.run_coupling.proofs.Runs.CodeLemmas.{no-filter-says, word-says}
 use Rattle.run_words.specs.Lists.{oldest_first}
 use Rattle.run_coupling.proofs.Lists.PlaceLemmas.{AreNumbered}
-use Rattle.run_crew.specs.ArrivalLaws.{WireKeepsCoupling}
+use Rattle.run_coupling.specs.Coupling.Marks.{LoadsFilter}
+use Rattle.run_crew.proofs.TurnListLemmas.{has_number, nth-oldest, oldest-nth}
+use Rattle.run_crew.proofs.WireTurnLemmas.{found-filter, id-at, look_in, no-clear, told}
+use Rattle.run_crew.specs.ArrivalLaws.{IsInTurn, WireKeepsCoupling}
 use Rattle.run_crew.specs.Routes.{ByFilter, Leads, LooksUpFilter}
 use Rattle.run_words.specs.HintViews.{HintView}
 use Rattle.run_crew.specs.Routes.{Routes, announcement}
@@ -377,6 +383,25 @@ arrival-is (b ∷ rest) n a numbered c =
           ∙ arrival-is rest (n + 1) a older later)
     ]
 
+-- an arrival has its place
+at-own-place : (arrivals : List Arrival) (n : ℕ) (a : Arrival) → AreNumbered n arrivals
+    → Contains arrivals a → (k : ℕ) → a.id ≡ n + k → slice_get arrivals k ≡ Some a
+at-own-place [] n a numbered (j, less, is) k id = absurd (omega arith)
+at-own-place (b ∷ rest) n a numbered c zero id = elim (contains-cases b rest a c) [
+  | inl e ↦ ap Some e
+  | inr later ↦
+      (let more = at-least rest (n + 1) a (ap (λ zs. drop 1 zs) numbered) later in
+      absurd (omega (arith, more, id)))
+]
+at-own-place (b ∷ rest) n a numbered c (suc k) id =
+    let first : b.id ≡ n = ap (λ zs. slice_index zs 0) numbered in
+    elim (contains-cases b rest a c) [
+      | inl e ↦ (let same : b.id ≡ a.id = ap (λ (z : Arrival). z.id) e in
+          absurd (omega (arith, first, same, id)))
+      | inr later ↦
+          at-own-place rest (n + 1) a (ap (λ zs. drop 1 zs) numbered) later k (omega (arith, id))
+    ]
+
 module _ (i : Input) (h : History) (c : HintCodes) (shared : AreShared c)
     (all : map (λ (a : Arrival). a.id) h.arrivals ≡ range_with_len 0 (length i.packets)) where
   numbered : AreNumbered 0 h.arrivals
@@ -391,12 +416,11 @@ module _ (i : Input) (h : History) (c : HintCodes) (shared : AreShared c)
       ⊎ ((a : Arrival) × Contains h.arrivals a × (c.packet x ≡ c.packet a.id)
       × (c.place q ≡ c.place a.queue))) → (arrival_of h.arrivals x).queue ≡ q
   queue-is x q (inl e) =
-      let z : 69793 + x ≡ 69792 = sym (shared.packet x) ∙ e in absurd (omega arith)
+      let z = sym (shared.packet x) ∙ e in absurd (omega (arith, z))
   queue-is x q (inr (a, has, number, value)) =
-      let n : 69793 + x ≡ 69793 + a.id =
-      sym (shared.packet x) ∙ (number ∙ shared.packet a.id) in
+      let n = sym (shared.packet x) ∙ (number ∙ shared.packet a.id) in
       let v : q + 1 ≡ a.queue + 1 = sym (shared.place q) ∙ (value ∙ shared.place a.queue) in
-      let id : x ≡ a.id = omega arith in
+      let id : x ≡ a.id = omega (arith, n) in
       let queue : a.queue ≡ q = omega arith in
       ap (λ z. (arrival_of h.arrivals z).queue) id
       ∙ (ap (λ (o : Option Arrival). (unwrap_or o no_arrival).queue)
@@ -405,7 +429,8 @@ module _ (i : Input) (h : History) (c : HintCodes) (shared : AreShared c)
 
 module _ (i : Input) (h : History) (c : HintCodes) (old new : HintView) (shared : AreShared c)
     (none : old.steps ≡ []) (late : List Arrival) (mid : HintView)
-    (are : h.arrivals ≡ oldest_first late) where
+    (are : h.arrivals ≡ oldest_first late)
+    (all : map (λ (a : Arrival). a.id) h.arrivals ≡ range_with_len 0 (length i.packets)) where
   abbrev plan_table : Redirection
   plan_table = record { queues = length i.plan.queues; entries = i.plan.reta }
 
@@ -438,17 +463,107 @@ module _ (i : Input) (h : History) (c : HintCodes) (old new : HintView) (shared 
             ]
       ]
 
+  -- ---- in turn
+
+  abbrev given : Setup
+  given = setup_in i
+
+  counted : (k : ℕ) (a : Arrival) → nth_step late k ≡ Some a → a.id ≡ k
+  counted k a at =
+      let is = id-at h.arrivals 0 k a (numbered i h c shared all)
+      (ap (λ zs. slice_get zs k) are ∙ nth-oldest late k a at) in
+      omega (arith, is)
+
+  mid-at : new ≡ after_step last mid → (n : ℕ) (d : HintStep) → nth_step new.steps n ≡ Some d
+      → (nth_step mid.steps n ≡ Some d) ⊎ ((last ≡ d) × (n ≡ length mid.steps))
+  mid-at done n d at =
+      nth-first last mid.steps n d
+      (subst (λ (s : HintView). nth_step s.steps n ≡ Some d) done at)
+
+  in-turn : (seats : List HintView) (leads : Leads given i.plan.filters plan_table late old mid)
+      → new ≡ after_step last mid → IsInTurn i h c seats new
+  unfolding number_of
+  in-turn seats leads done =
+      record {
+        look = look_in given i.plan.filters plan_table late old mid leads;
+        looks = λ a hash queue has some way. looks a hash queue (place-of a has) some way;
+        tells = λ x y n value hash le some at. tells x y n value hash le some
+            (mid-at done n (Store (c.packet y) value) at);
+      }
+    where
+      tells : (x y n value hash : ℕ) → x ≤ y → packet_hash given x ≡ Some hash
+          → (nth_step mid.steps n ≡ Some (Store (c.packet y) value))
+          ⊎ ((last ≡ Store (c.packet y) value) × (n ≡ length mid.steps))
+          → look_in given i.plan.filters plan_table late old mid leads x < n
+      tells x y n value hash le some (inl at) =
+          (told given i.plan.filters plan_table late old mid leads none counted n y value
+          (subst (λ m. nth_step mid.steps n ≡ Some (Store m value)) (shared.packet y) at)).1 x hash
+          le some
+      tells x y n value hash le some (inr (is, end)) =
+          let number = ap number_of is ∙ shared.packet y in absurd (omega (arith, number))
+
+      place-of : (a : Arrival) → Contains h.arrivals a → nth_step late a.id ≡ Some a
+      place-of a has =
+          oldest-nth late a.id a
+          (sym (ap (λ zs. slice_get zs a.id) are)
+          ∙ at-own-place h.arrivals 0 a (numbered i h c shared all) has a.id (omega arith))
+
+      looks : (a : Arrival) (hash queue : ℕ) → nth_step late a.id ≡ Some a
+          → packet_hash given a.id ≡ Some hash
+          → route_of a ≡ route (Some hash) (Some queue) 0
+          → LoadsFilter i h c seats new
+          (look_in given i.plan.filters plan_table late old mid leads a.id) hash queue
+      looks a hash queue at some way =
+          let x = found-filter given i.plan.filters plan_table late old mid leads counted a.id a
+          hash queue at some way in
+          let range = in-range x.value (length given.homes) given.cpus x.filter x.means in
+          let step : ℕ = look_in given i.plan.filters plan_table late old mid leads a.id in
+          let load : HintStep = Load (hint_number (word.Filter x.place)) x.value in
+          let value : x.value ≡ c.filter_value x.filter =
+          only_coded.filter x.value (length given.homes) given.cpus x.filter x.means
+          ∙ sym (shared.filter_value x.filter) in
+          record {
+            place = x.place;
+            filter = x.filter;
+            here = x.here;
+            queue_is = x.queue_is;
+            queue_within =
+                subst (λ n. x.filter.queue < n)
+                (length-map i.plan.queues (λ (q : QueuePlan). q.home)) range.0;
+            cpu_within = range.1;
+            loads =
+                ap (λ (s : HintView). nth_step s.steps step) done
+                ∙ (nth-old (last ∷ []) mid.steps step (nth-inside mid.steps step load x.loads)
+                ∙ (x.loads
+                ∙ (λ j. Some (Load (sym (shared.filter x.place) j) (value j)))));
+          }
+
+  nothing-cleared : Leads given i.plan.filters plan_table late old mid
+      → new ≡ after_step last mid → (number value : ℕ) (done : Bool)
+      → Contains new.steps (ClearIf number value done) → ⊥
+  nothing-cleared leads is number value done has =
+      let at = has_number new.steps (ClearIf number value done) has in
+      elim (mid-at is at.0 (ClearIf number value done) at.1) [
+        | inl before ↦
+            no-clear given i.plan.filters plan_table late old mid leads none at.0 number value done
+            before
+        | inr (same, end) ↦ absurd (cc)
+      ]
+
 pub wire_keeps_coupling : WireKeepsCoupling
 wire_keeps_coupling i h c seats old new shared among none all (late, mid, are, leads, done) =
     let last : HintStep = Store (hint_number word.Done) DONE in
     let grows : (d : HintStep) → Contains mid.steps d → Contains new.steps d =
     λ d has. subst (λ (s : HintView). Contains s.steps d) (sym done)
     (contains-later last mid.steps d has) in
-    let stored = stored-are i h c old new shared none late mid are leads done in
+    let stored = stored-are i h c old new shared none late mid are all leads done in
     record {
+      among = among;
       arrived = all;
       routed = subst (All (IsLed i h c seats new shared among)) (sym are)
           (all-led i h c seats new shared among late old mid leads grows);
       stored = stored;
       packets = λ x q has. queue-is i h c shared all x q (stored (c.packet x) (c.place q) has);
+      in_turn = in-turn i h c old new shared none late mid are all seats leads done;
+      cleared = nothing-cleared i h c old new shared none late mid are all leads done;
     }

@@ -1,8 +1,9 @@
 -- Functions made of what each number below a bound has.
 use Rattle.std.proofs.Common.{◌≡◌, ◌⊎◌, inl, inr, ℕ, ◌<◌, ◌≤◌, List, [], ◌∷◌, Option, Some, zero}
-use Rattle.std.proofs.Common.{None, suc, length, refl, ap, arith}
+use Rattle.std.proofs.Common.{None, suc, length, refl, ap, subst, arith, All}
 use Rattle.std.specs.Prelude.{slice_get}
 use Rattle.std.proofs.lemmas.Bool.{cases_lt}
+use Rattle.std.proofs.lemmas.List.Elements.{All-head, All-tail}
 
 module _ {A : Type 0} (P : ℕ → A → Type 0) (n : ℕ) (other : A)
     (below : (k : ℕ) → k < n → (a : A) × P k a) (beyond : (k : ℕ) → n ≤ k → P k other) where
@@ -36,3 +37,11 @@ pub is-within : {A : Type 0} (xs : List A) (k : ℕ) (x : A) → slice_get xs k 
 is-within [] k x there = none-some x there
 is-within (y ∷ xs) zero x there = omega arith
 is-within (y ∷ xs) (suc k) x there = let rest = is-within xs k x there in omega (arith, rest)
+
+-- what holds of all items holds of that at a place
+pub at-place : {A : Type 0} (P : A → Type 0) (xs : List A) (k : ℕ) (x : A) → All P xs
+    → slice_get xs k ≡ Some x → P x
+at-place P [] k x all there = none-some x there
+at-place P (y ∷ ys) zero x all there =
+    subst P (some-is y x there) (All-head P y ys all)
+at-place P (y ∷ ys) (suc k) x all there = at-place P ys k x (All-tail P y ys all) there

@@ -28,7 +28,7 @@ use Rattle.run_crew.proofs.ChoiceFunctions.{chosen, is-within, item-at, some-is}
 -- ---- turns of all seats
 
 abbrev no_turns : SeatTurns
-no_turns = record { steered = []; replied = []; noted = [] }
+no_turns = record { steered = []; replied = []; marks = []; noted = [] }
 
 module _ (t : StageView) (crew : List Seated) (queues apps : ℕ)
     (are : AreWorking t crew queues apps) where
@@ -44,13 +44,20 @@ module _ (t : StageView) (crew : List Seated) (queues apps : ℕ)
       let has : HasTurns t at.0 (record {
         steered = work.turns;
         replied = work.replies;
+        marks = work.marks;
         noted = work.noted;
-      }) = record { is = work; steered = refl; replied = refl; noted = refl } in (
-        record { steered = work.turns; replied = work.replies; noted = work.noted },
+      }) = record { is = work; steered = refl; replied = refl; marks = refl; noted = refl } in (
+        record {
+          steered = work.turns;
+          replied = work.replies;
+          marks = work.marks;
+          noted = work.noted;
+        },
         (
           λ x there. subst (λ y. HasTurns t y (record {
             steered = work.turns;
             replied = work.replies;
+            marks = work.marks;
             noted = work.noted;
           })) (some-is at.0 x (sym at.1 ∙ there)) has,
           λ more. absurd (omega (arith, less, more)),

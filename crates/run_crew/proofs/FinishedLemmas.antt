@@ -16,6 +16,7 @@ use Rattle.steer_model.specs.State.Setup.{Setup}
 use Rattle.run_workers.specs.Actors.{actor_at}
 use Rattle.run_workers.specs.Hands.Pollers.{count_after}
 use Rattle.run_workers.specs.Records.Polling.{IsPolling, PolledTurn, accepted_turns}
+use Rattle.run_workers.specs.Records.Words.{Mark}
 use Rattle.run_workers.specs.Stages.{StageView}
 use Rattle.run_workers.specs.Tally.{dropped_in, retired_in}
 use Rattle.run_workers.specs.declared.drain.Drain.{Drain}
@@ -44,9 +45,10 @@ accepted-few (s ∷ ss) =
 
 -- no more packets were accepted than were chosen for
 accepted-within : (given : Setup) (first start : ℕ) (p : Poller) (turns : List (StepBy Turn))
-    (hints : List HintStep) → IsPolling given first start p turns hints
+    (marks : List (StepBy Mark)) (hints : List HintStep)
+    → IsPolling given first start p turns marks hints
     → p.accepted ≤ length p.choices.items
-accepted-within given first start p turns hints x =
+accepted-within given first start p turns marks hints x =
     let own = steps_of p.queue turns in
     let few = accepted-few x.polled in
     let accepted = x.accepted in
@@ -104,7 +106,7 @@ module _ (t : StageView) (crew : List Seated) (queues apps : ℕ)
   balanced w k None (Some p) there is = none-some p is
   balanced w k (Some x) (Some p) there is =
       let y = are.work w x there in
-      let few = accepted-within t.shared.given _ _ p _ _ (y.pollers k p is).keeps in
+      let few = accepted-within t.shared.given _ _ p _ _ _ (y.pollers k p is).keeps in
       omega (arith, few)
 
   dropped-all : sum_below (λ q. dropped_of (played crew pollers_of q)) Q

@@ -2,9 +2,11 @@ pub mod TurnListLemmas
 pub mod OwnTableLemmas
 pub mod RuleLemmas
 pub mod QueueCouplingLemmas
+pub mod NoteLemmas
 pub mod ApplicationCouplingLemmas
 pub mod StoreCouplingLemmas
 pub mod ArrivalCouplingLemmas
+pub mod WireTurnLemmas
 pub mod ChoiceFunctions
 pub mod ExecutionLemmas
 mod QueueTurnLemmas

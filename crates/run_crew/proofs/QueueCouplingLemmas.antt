@@ -9,6 +9,7 @@ use Rattle.std.specs.Option.{is_some}
 use Rattle.std.proofs.lemmas.Bool.{lt-ltb, le-leb}
 use Rattle.std.proofs.lemmas.List.{length-replicate}
 use Rattle.std.proofs.lemmas.List.Elements.{All-head, All-tail}
+use Rattle.linearization.specs.Orders.{StepBy}
 use Rattle.linearization.specs.Seats.{SeatView}
 use Rattle.linearization.proofs.ListLemmas.{if_same, if_other}
 use Rattle.steer_base.specs.Choices.{class_of, looks_at_head, migrate, rps_choice_of}
@@ -47,11 +48,13 @@ use Rattle.run_words.specs.Lists.{oldest_first}
 use Rattle.run_workers.specs.Records.Polling.{AllPolled, IsLastLook, IsPolled, IsPolling}
 use Rattle.run_workers.specs.Records.Polling.{PolledTurn, table_of_turn}
 use Rattle.run_workers.specs.Records.Polling.{turns_in}
-use Rattle.run_crew.specs.QueueCoupling.{IsQueueCoupled, PollersAreCoupled, words_read, words_seen}
+use Rattle.run_workers.specs.Records.Words.{Mark}
+use Rattle.run_crew.specs.QueueCoupling.{IsMarkedBy, IsQueueCoupled, PollersAreCoupled, words_read}
+use Rattle.run_crew.specs.QueueCoupling.{words_seen}
 use Rattle.run_crew.specs.QueueCoupling.{words_of_turn}
 use Rattle.run_crew.proofs.OwnTableLemmas.{all_at, fold_rows, table_is}
 use Rattle.run_crew.proofs.RuleLemmas.{choice_looked, coded_look, goal, own_want, rule_looks}
-use Rattle.run_crew.proofs.TurnListLemmas.{TurnAt, front, turn_at}
+use Rattle.run_crew.proofs.TurnListLemmas.{TurnAt, front, nth-map, turn_at}
 
 abbrev turn_of : PolledTurn → Turn
 turn_of s = s.turn
@@ -144,12 +147,56 @@ looks_rise first start given packets q hints (s ∷ ss) all j k m n less a b =
         subst (λ o. IfSome o (λ l. l < n)) x.2
         (of_nth (λ (z : PolledTurn). IfSome z.look (λ l. l < n)) ss j x.0 last old)
 
+-- the step by which a turn marked its packet
+abbrev mark_of : Option PolledTurn → ℕ
+mark_of None = 0
+mark_of (Some s) = s.mark
+
+abbrev mark_in : PolledTurn → Mark
+mark_in s = record { packet = s.turn.chosen.id; number = s.mark }
+
+-- the looks of a turn and of earlier ones come before its mark
+looks_before : (first start : ℕ) (given : Setup) (packets q : ℕ) (hints : List HintStep)
+    (ss : List PolledTurn) → AllPolled first start given packets q hints ss
+    → (j k m : ℕ) (z : PolledTurn) → j ≤ k → look_of (nth_step ss j) ≡ Some m
+    → nth_step ss k ≡ Some z → m < z.mark
+looks_before first start given packets q hints [] all j k m z le look at = none-some m look
+looks_before first start given packets q hints (s ∷ ss) all j k m z le look at =
+    let x = look_inside (nth_step (s ∷ ss) j) m look in
+    by_last (λ old_look old. looks_before first start given packets q hints ss all.1 j k m z le
+    old_look old)
+    (λ w old_look old. looks_before first start given packets q hints ss all.1 j j m w
+    (omega arith) old_look old)
+    x (nth-first s ss j x.0 x.1) (nth-first s ss k z at)
+  where
+    by_last : (look_of (nth_step ss j) ≡ Some m → nth_step ss k ≡ Some z → m < z.mark)
+        → ((w : PolledTurn) → look_of (nth_step ss j) ≡ Some m → nth_step ss j ≡ Some w
+        → m < w.mark)
+        → (x : (w : PolledTurn) × (nth_step (s ∷ ss) j ≡ Some w) × (w.look ≡ Some m))
+        → (nth_step ss j ≡ Some x.0) ⊎ ((s ≡ x.0) × (j ≡ length ss))
+        → (nth_step ss k ≡ Some z) ⊎ ((s ≡ z) × (k ≡ length ss)) → m < z.mark
+    by_last rest own x (inl old) (inl later) = rest (ap look_of old ∙ x.2) later
+    by_last rest own x (inl old) (inr new) =
+        let early = own x.0 (ap look_of old ∙ x.2) old in
+        let last = of_nth (λ (w : PolledTurn). w.mark < s.mark) ss j x.0 all.0.marked_last old in
+        let same = ap (λ (w : PolledTurn). w.mark) new.0 in
+        omega (arith, early, last, same)
+    by_last rest own x (inr last) (inl later) =
+        let inside = nth-inside ss k z later in
+        let at = last.1 in
+        absurd (omega (arith, inside, at, le))
+    by_last rest own x (inr last) (inr new) =
+        let look : s.look ≡ Some m = ap (λ (w : PolledTurn). w.look) last.0 ∙ x.2 in
+        let late : m < s.mark = subst (λ o. IfSome o (λ l. l < s.mark)) look all.0.marked_late in
+        let same = ap (λ (w : PolledTurn). w.mark) new.0 in
+        omega (arith, late, same)
+
 -- ---- one queue
 
 module _ (i : Input) (about : BoardSizes) (own : List BoardStep) (c : HintCodes)
     (seats : List (SeatView HintStep)) (seat : SeatView HintStep) (t : Execution) (first : ℕ)
-    (p : Poller)
-    (x : IsPolling (setup_in i) first about.start p (t.turns (t.seat p.queue)) seat.steps)
+    (p : Poller) (marks : List (StepBy Mark))
+    (x : IsPolling (setup_in i) first about.start p (t.turns (t.seat p.queue)) marks seat.steps)
     (hashes : FlowsHaveOneHash i) (few : p.choices.room ≤ length i.packets)
     (less : p.queue < length (setup_in i).homes) where
   abbrev given : Setup
@@ -354,39 +401,65 @@ module _ (i : Input) (about : BoardSizes) (own : List BoardStep) (c : HintCodes)
   -- ---- all turns
 
   coupled : AreShared c → Contains seats seat
-      → IsQueueCoupled i about own c seats t p.queue (words_seen queues p.queue x.polled)
-  coupled codes among =
-      record {
-        hashes = λ k u is.
-            (let z = at k u is in
-            let y = is_polled z.newer z.s z.older z.are in
-            subst (λ (v : Turn). v.hash ≡ packet_hash given v.chosen.id) z.turn_is y.hash);
-        knows = λ k u is. (let z = at k u is in
-            subst (λ (v : Turn × ℕ). HasSeen own q p.queue v.0 (seen v.1))
-            (λ j. (z.turn_is j, z.before j)) (knows_it z.newer z.s z.older z.are));
-        knows_sock = λ k u is. (let z = at k u is in
-            subst (λ (v : Turn × ℕ). Knows own v.0 (2 * queues) (seen v.1 (2 * queues)))
-            (λ j. (z.turn_is j, z.before j)) (knows_socket z.newer z.s z.older z.are));
-        by_table = λ k u is fit. (let z = at k u is in
-            subst (λ (v : Turn × ℕ). IsByTable about.start t steering seen p.queue v.1 v.0)
-            (λ j. (z.turn_is j, z.before j))
-            (turn_by_table z.newer z.s z.older z.are
-            (subst (λ n. FitReceiveWords q i.plan.cpus p.queue (seen n)) (sym z.before) fit)));
-        wants = λ _. record {
-          seat = seat;
-          among = among;
-          step = λ k. look_of (nth_step x.polled k);
-          each = λ k u is. (let z = at k u is in
-              subst (λ (v : Turn × ℕ). LookedUp c given.cpus seat
-              (entry_of (seen v.1 (2 * queues)) v.0.chosen.choice.class
-              (packet_hash given v.0.chosen.id)) (look_of (nth_step x.polled v.1))
-              v.0.chosen.choice.want)
-              (λ j. (z.turn_is j, z.before j)) (was_looked z.newer z.s z.older z.are));
-          order = looks_rise first about.start given p.choices.room p.queue seat.steps x.polled
-              x.are;
-        };
-      }
+      → (q : IsQueueCoupled i about own c seats t p.queue (words_seen queues p.queue x.polled))
+      × ((less : p.queue < length i.plan.queues) → IsMarkedBy i c seats t p.queue
+      (words_seen queues p.queue x.polled) (q.wants less) seat marks)
+  coupled codes among = (
+    record {
+      hashes = λ k u is.
+          (let z = at k u is in
+          let y = is_polled z.newer z.s z.older z.are in
+          subst (λ (v : Turn). v.hash ≡ packet_hash given v.chosen.id) z.turn_is y.hash);
+      knows = λ k u is. (let z = at k u is in
+          subst (λ (v : Turn × ℕ). HasSeen own q p.queue v.0 (seen v.1))
+          (λ j. (z.turn_is j, z.before j)) (knows_it z.newer z.s z.older z.are));
+      knows_sock = λ k u is. (let z = at k u is in
+          subst (λ (v : Turn × ℕ). Knows own v.0 (2 * queues) (seen v.1 (2 * queues)))
+          (λ j. (z.turn_is j, z.before j)) (knows_socket z.newer z.s z.older z.are));
+      by_table = λ k u is fit. (let z = at k u is in
+          subst (λ (v : Turn × ℕ). IsByTable about.start t steering seen p.queue v.1 v.0)
+          (λ j. (z.turn_is j, z.before j))
+          (turn_by_table z.newer z.s z.older z.are
+          (subst (λ n. FitReceiveWords q i.plan.cpus p.queue (seen n)) (sym z.before) fit)));
+      wants = λ _. record {
+        seat = seat;
+        among = among;
+        step = λ k. look_of (nth_step x.polled k);
+        each = λ k u is. (let z = at k u is in
+            subst (λ (v : Turn × ℕ). LookedUp c given.cpus seat
+            (entry_of (seen v.1 (2 * queues)) v.0.chosen.choice.class
+            (packet_hash given v.0.chosen.id)) (look_of (nth_step x.polled v.1))
+            v.0.chosen.choice.want)
+            (λ j. (z.turn_is j, z.before j)) (was_looked z.newer z.s z.older z.are));
+        order = looks_rise first about.start given p.choices.room p.queue seat.steps x.polled
+            x.are;
+        mark = λ k. mark_of (nth_step x.polled k);
+        before = λ j k m u le is look. (let z = at k u is in
+            let there = nth_is z.newer z.s z.older z.are k z.before in
+            subst (λ n. m < n) (sym (ap mark_of there))
+            (looks_before first about.start given p.choices.room p.queue seat.steps x.polled x.are
+            j k m z.s le look there));
+      };
+    },
+    λ within. record {
+      seat_is = refl;
+      each = λ k m is. (let z = turn_at mark_in x.polled k m
+          (ap (λ ms. nth_step ms k) x.marked ∙ is) in
+          let there = nth_is z.newer z.s z.older z.are k z.before in (
+            z.s.turn,
+            ap (λ us. nth_step us k) (sym x.own) ∙ nth-map turn_of x.polled k z.s there,
+            ap (λ (n : Mark). n.packet) z.turn_is,
+            ap mark_of there ∙ ap (λ (n : Mark). n.number) z.turn_is,
+          ));
+    },
+  )
     where
+      nth_is : (a : List PolledTurn) (s : PolledTurn) (b : List PolledTurn)
+          → x.polled ≡ a ++ s ∷ b → (k : ℕ) → length b ≡ k → nth_step x.polled k ≡ Some s
+      nth_is a s b are k before =
+          ap (λ n. nth_step x.polled n) (sym before)
+          ∙ (ap (λ zs. nth_step zs (length b)) are ∙ nth-between a s b)
+
       reads_of : (a : List PolledTurn) (s : PolledTurn) (b : List PolledTurn)
           (are : x.polled ≡ a ++ s ∷ b) (word value : ℕ)
           → words_read queues p.queue s.reading word ≡ value
@@ -447,5 +520,5 @@ module _ (i : Input) (about : BoardSizes) (own : List BoardStep) (c : HintCodes)
           s.turn.chosen.choice y.rule y.looks))
 
 pub pollers_are_coupled : PollersAreCoupled
-pollers_are_coupled i about own c seats seat t first p x hashes few less codes among =
-    coupled i about own c seats seat t first p x hashes few less codes among
+pollers_are_coupled i about own c seats seat t first p marks x hashes few less codes among =
+    coupled i about own c seats seat t first p marks x hashes few less codes among

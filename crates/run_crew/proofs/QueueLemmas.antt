@@ -1,7 +1,7 @@
 -- The coupling invariants of the receive queues, from the records of their pollers.
 use Rattle.std.proofs.Common.{◌≡◌, ℕ, ◌%◌, ◌<◌, ◌≤◌, List}
 use Rattle.std.proofs.Common.{Some, length, map, sym, refl, ap, ◌∙◌, subst, arith}
-use Rattle.std.specs.Prelude.{slice_index}
+use Rattle.std.specs.Prelude.{slice_get, slice_index}
 use Rattle.std.specs.List.{Contains}
 use Rattle.linearization.specs.Seats.{SeatView}
 use Rattle.steer_base.specs.declared.choice.Chosen.{Chosen}
@@ -10,14 +10,15 @@ use Rattle.history.specs.Lists.{arrivals_at, list_at}
 use Rattle.history.specs.declared.history.History.{History}
 use Rattle.hop_rule.specs.Moments.{nth_step}
 use Rattle.hop_rule.specs.declared.step.BoardStep.{BoardStep}
-use Rattle.hop_rule.proofs.Lists.{none-some}
+use Rattle.hop_rule.proofs.Lists.{none-some, some-is}
 use Rattle.hop_delivery.specs.Orders.Runs.{Execution, turns_of}
 use Rattle.hop_delivery.specs.Orders.Turns.{Turn}
 use Rattle.steer_model.specs.Good.Inputs.{Input, setup_in}
 use Rattle.run_coupling.specs.Laws.SharedCodes.{AreShared}
 use Rattle.run_coupling.specs.Coupling.Hints.{HintCodes}
 use Rattle.run_workers.specs.Records.Polling.{IsPolling}
-use Rattle.run_crew.specs.QueueCoupling.{IsQueueCoupled, PollersAreCoupled, words_seen}
+use Rattle.run_crew.specs.QueueCoupling.{IsMarkedBy, IsQueueCoupled, PollersAreCoupled}
+use Rattle.run_crew.specs.QueueCoupling.{words_seen}
 use Rattle.run_workers.specs.Actors.{Each}
 use Rattle.run_workers.specs.Stages.{StageView}
 use Rattle.run_crew.specs.Crews.{IsPlayed, pollers_of}
@@ -42,9 +43,12 @@ module _ (law : PollersAreCoupled) (i : Input) (h : History) (t : StageView) (cr
   abbrev execution : Execution
   execution = queue_execution crew turns h.choices (arrivals_at h.arrivals)
 
-  -- the coupling invariants of queue p at the seat that steers it
+  -- the coupling invariants of queue p at the seat that steers it, with the seat's marks
   abbrev IsCoupled : ℕ → (ℕ → ℕ → ℕ) → Type 0
-  IsCoupled p seen = IsQueueCoupled i t.rx.sizes (own (p % W)) c seats execution p seen
+  IsCoupled p seen =
+      (z : IsQueueCoupled i t.rx.sizes (own (p % W)) c seats execution p seen)
+      × ((less : p < Q) (y : Seated) → slice_get crew (p % W) ≡ Some y
+      → IsMarkedBy i c seats execution p seen (z.wants less) y.seats.hint (turns (p % W)).marks)
 
   module _ (q : ℕ) (less : q < Q) where
     abbrev p : IsPlayed crew pollers_of q
@@ -52,17 +56,20 @@ module _ (law : PollersAreCoupled) (i : Input) (h : History) (t : StageView) (cr
 
     polling : IsPolling (setup_in i)
         ((has i t crew turns own h.choices e (q % W) p.by p.worker).is.first q)
-        t.rx.sizes.start p.actor (turns (q % W)).steered p.by.seats.hint.steps
+        t.rx.sizes.start p.actor (turns (q % W)).steered (turns (q % W)).marks
+        p.by.seats.hint.steps
     polling =
         let y = has i t crew turns own h.choices e (q % W) p.by p.worker in
         let k = keeps-poller i t crew turns own h.choices e q p in
         let same = queue-is i t crew turns own h.choices e q p in
         subst (λ g. IsPolling g (y.is.first q) t.rx.sizes.start p.actor (turns (q % W)).steered
-        p.by.seats.hint.steps) e.given
+        (turns (q % W)).marks p.by.seats.hint.steps) e.given
         (subst (λ ts. IsPolling t.shared.given (y.is.first q) t.rx.sizes.start p.actor ts
-        p.by.seats.hint.steps) y.steered
+        (turns (q % W)).marks p.by.seats.hint.steps) y.steered
+        (subst (λ ms. IsPolling t.shared.given (y.is.first q) t.rx.sizes.start p.actor y.is.turns
+        ms p.by.seats.hint.steps) y.marks
         (subst (λ n. IsPolling t.shared.given (y.is.first n) t.rx.sizes.start p.actor y.is.turns
-        p.by.seats.hint.steps) same k.keeps))
+        y.is.marks p.by.seats.hint.steps) same k.keeps)))
 
     coupled : (seen : ℕ → ℕ → ℕ) × IsCoupled q seen
     coupled =
@@ -73,17 +80,26 @@ module _ (law : PollersAreCoupled) (i : Input) (h : History) (t : StageView) (cr
         let most = e.room in
         let homes = home-count i t crew turns own h.choices e in
         let x : IsPolling (setup_in i) (y.is.first q) t.rx.sizes.start p.actor
-        (turns (p.actor.queue % W)).steered p.by.seats.hint.steps =
+        (turns (p.actor.queue % W)).steered (turns (p.actor.queue % W)).marks
+        p.by.seats.hint.steps =
         subst (λ n. IsPolling (setup_in i) (y.is.first q) t.rx.sizes.start p.actor
-        (turns (n % W)).steered p.by.seats.hint.steps) (sym same) polling in
+        (turns (n % W)).steered (turns (n % W)).marks p.by.seats.hint.steps) (sym same) polling in
         let within : p.actor.queue < length (setup_in i).homes =
         subst (λ g. p.actor.queue < length g.homes) e.given k.within in
-        let is : IsQueueCoupled i t.rx.sizes (own (p.actor.queue % W)) c seats execution
-        p.actor.queue
-        (words_seen (length (setup_in i).homes) p.actor.queue x.polled) =
+        let z =
         law i t.rx.sizes (own (p.actor.queue % W)) c seats p.by.seats.hint execution
-        (y.is.first q) p.actor x e.hashes (omega (arith, room, most)) within codes
-        (among (q % W) p.by p.worker) in (
+        (y.is.first q) p.actor (turns (p.actor.queue % W)).marks x e.hashes
+        (omega (arith, room, most)) within codes (among (q % W) p.by p.worker) in
+        let is : IsCoupled p.actor.queue
+        (words_seen (length (setup_in i).homes) p.actor.queue x.polled) = (
+          z.0,
+          λ low v there. subst (λ (w : Seated). IsMarkedBy i c seats execution p.actor.queue
+              (words_seen (length (setup_in i).homes) p.actor.queue x.polled) (z.0.wants low)
+              w.seats.hint (turns (p.actor.queue % W)).marks)
+              (some-is p.by v (sym p.worker
+              ∙ (ap (λ n. slice_get crew (n % W)) (sym same) ∙ there)))
+              (z.1 low),
+        ) in (
           words_seen (length (setup_in i).homes) p.actor.queue x.polled,
           subst (λ n. IsCoupled n (words_seen (length (setup_in i).homes) p.actor.queue x.polled))
               same is,
@@ -91,14 +107,16 @@ module _ (law : PollersAreCoupled) (i : Input) (h : History) (t : StageView) (cr
 
   -- without turns there is nothing to coupling
   uncoupled : (p : ℕ) → Q ≤ p → IsCoupled p (λ k w. 0)
-  uncoupled p more =
-      record {
-        hashes = λ k u at. nothing k u at;
-        knows = λ k u at. nothing k u at;
-        knows_sock = λ k u at. nothing k u at;
-        by_table = λ k u at fit. nothing k u at;
-        wants = λ less. absurd (omega (arith, more, less));
-      }
+  uncoupled p more = (
+    record {
+      hashes = λ k u at. nothing k u at;
+      knows = λ k u at. nothing k u at;
+      knows_sock = λ k u at. nothing k u at;
+      by_table = λ k u at fit. nothing k u at;
+      wants = λ less. absurd (omega (arith, more, less));
+    },
+    λ less y there. absurd (omega (arith, more, less)),
+  )
     where
       nothing : {B : Type 0} (k : ℕ) (u : Turn) → nth_step (turns_of execution p) k ≡ Some u → B
       nothing k u at =
@@ -114,7 +132,7 @@ module _ (law : PollersAreCoupled) (i : Input) (h : History) (t : StageView) (cr
       (taken : (q : ℕ) → slice_index h.taken q ≡ length (list_at h.choices q))
       (all : (q : ℕ)
       → map (λ (c : Chosen). c.id) (list_at h.choices q) ≡ arrivals_at h.arrivals q) where
-    keep-coupling : QueuesAreCoupled i h t own c seats execution
+    keep-coupling : QueuesAreCoupled i h t crew turns own c seats execution
     keep-coupling =
         let y = all-coupled in
         record {
@@ -127,12 +145,13 @@ module _ (law : PollersAreCoupled) (i : Input) (h : History) (t : StageView) (cr
             arrivals = λ p. refl;
             choices = λ p. refl;
             taken = taken;
-            hashes = λ p. (y.1 p).hashes;
-            knows = λ p. (y.1 p).knows;
-            knows_sock = λ p. (y.1 p).knows_sock;
-            by_table = λ p. (y.1 p).by_table;
+            hashes = λ p. (y.1 p).0.hashes;
+            knows = λ p. (y.1 p).0.knows;
+            knows_sock = λ p. (y.1 p).0.knows_sock;
+            by_table = λ p. (y.1 p).0.by_table;
           };
-          wants = λ p. (y.1 p).wants;
+          wants = λ p. (y.1 p).0.wants;
+          marks = λ p. (y.1 p).1;
         }
 
 pub queues_keep_coupling : PollersAreCoupled → QueuesKeepCoupling

@@ -37,7 +37,7 @@ module _ (i : Input) (t : StageView) (crew : List Seated) (turns : ℕ → SeatT
 
   pub keeps-poller : (q : ℕ) (p : IsPlayed crew pollers_of q)
       → KeepsPoller t p.by.seats (has (q % W) p.by p.worker).is.first
-      (has (q % W) p.by p.worker).is.turns (q / W) p.actor
+      (has (q % W) p.by p.worker).is.turns (has (q % W) p.by p.worker).is.marks (q / W) p.actor
   keeps-poller q p = (has (q % W) p.by p.worker).is.pollers (q / W) p.actor p.is
 
   pub queue-is : (q : ℕ) (p : IsPlayed crew pollers_of q) → p.actor.queue ≡ q

@@ -46,18 +46,21 @@ module _ (law : ApplicationsAreCoupled) (i : Input) (h : History) (t : StageView
   execution =
       reply_execution crew turns h.tx_choices (λ a. map (λ (s : Sent). s.id) (list_at h.sent a))
 
+  -- what the turns of an application have seen, and the replies of its writes
+  abbrev Seen : Type 0
+  Seen = (ℕ → ℕ → ℕ) × (ℕ → ℕ)
+
   -- the coupling invariants of application a at the seat that plays it
-  abbrev IsCoupled : ℕ → (ℕ → ℕ → ℕ) → Type 0
-  IsCoupled a seen =
-      IsApplicationCoupled i h rx_own t.tx.sizes (own (a % W)) c seats execution a (list_at h.sent
-      a)
-      (list_at h.writes a) seen
+  abbrev IsCoupled : ℕ → Seen → Type 0
+  IsCoupled a z =
+      IsApplicationCoupled i h rx_own t.tx.sizes (own (a % W)) c seats execution a
+      (turns (a % W)).noted (list_at h.sent a) (list_at h.writes a) z.0 z.1
 
   module _ (a : ℕ) (less : a < A) where
     abbrev p : IsPlayed crew servers_of a
     p = e.work.servers a less
 
-    coupled : (seen : ℕ → ℕ → ℕ) × IsCoupled a seen
+    coupled : (z : Seen) × IsCoupled a z
     coupled =
         let y = has i h t crew turns rx_own own e (a % W) p.by p.worker in
         let k = keeps-server i h t crew turns rx_own own e a p in
@@ -65,40 +68,46 @@ module _ (law : ApplicationsAreCoupled) (i : Input) (h : History) (t : StageView
         let j = e.journals a less p in
         let rx_is = e.rx_lists (a % W) p.by p.worker in
         let x : IsReplying (setup_in i) y.is.rows t.tx.sizes.start h.arrivals p.actor
-        (turns (p.actor.app % W)).replied (rx_own (a % W)) p.by.seats.hint.steps =
+        (turns (p.actor.app % W)).replied (turns (p.actor.app % W)).noted (rx_own (a % W))
+        p.by.seats.hint.steps =
         subst (λ g. IsReplying g y.is.rows t.tx.sizes.start h.arrivals p.actor
-        (turns (p.actor.app % W)).replied (rx_own (a % W)) p.by.seats.hint.steps) e.given
+        (turns (p.actor.app % W)).replied (turns (p.actor.app % W)).noted (rx_own (a % W))
+        p.by.seats.hint.steps) e.given
         (subst (λ late. IsReplying t.shared.given y.is.rows t.tx.sizes.start late p.actor
-        (turns (p.actor.app % W)).replied (rx_own (a % W)) p.by.seats.hint.steps) e.late
+        (turns (p.actor.app % W)).replied (turns (p.actor.app % W)).noted (rx_own (a % W))
+        p.by.seats.hint.steps) e.late
         (subst (λ n. IsReplying t.shared.given y.is.rows t.tx.sizes.start t.late p.actor
-        (turns (n % W)).replied (rx_own (a % W)) p.by.seats.hint.steps) (sym same)
+        (turns (n % W)).replied (turns (n % W)).noted (rx_own (a % W)) p.by.seats.hint.steps)
+        (sym same)
         (subst (λ ts. IsReplying t.shared.given y.is.rows t.tx.sizes.start t.late p.actor ts
-        (rx_own (a % W)) p.by.seats.hint.steps) y.replied
+        (turns (a % W)).noted (rx_own (a % W)) p.by.seats.hint.steps) y.replied
+        (subst (λ ns. IsReplying t.shared.given y.is.rows t.tx.sizes.start t.late p.actor
+        y.is.replies ns (rx_own (a % W)) p.by.seats.hint.steps) y.noted
         (subst (λ ds. IsReplying t.shared.given y.is.rows t.tx.sizes.start t.late p.actor
-        y.is.replies ds p.by.seats.hint.steps) (sym rx_is) k.keeps)))) in
+        y.is.replies y.is.noted ds p.by.seats.hint.steps) (sym rx_is) k.keeps))))) in
         let flows : HasFlowsBelow (setup_in i) p.actor.sent.room y.is.rows =
         subst (λ g. HasFlowsBelow g p.actor.sent.room y.is.rows) e.given
         (subst (λ n. HasFlowsBelow t.shared.given n y.is.rows) (sym k.room) y.is.flows) in
         let home : slice_get i.plan.apps p.actor.app ≡ Some p.actor.home =
         ap (slice_get i.plan.apps) same ∙ j.home in
-        let is =
+        let z =
         law i h rx_own (a % W) t.tx.sizes (own (p.actor.app % W)) c seats p.by.seats.hint
-        execution y.is.rows p.actor x e.arrived flows home codes
+        execution y.is.rows p.actor (turns (p.actor.app % W)).noted x e.arrived flows home codes
         (among (a % W) p.by p.worker) j.hand in (
-          maps_seen x.replied,
+          (maps_seen x.replied, z.0),
           subst (λ n. IsApplicationCoupled i h rx_own t.tx.sizes (own (n % W)) c seats execution n
-              (list_at h.sent a) (list_at h.writes a) (maps_seen x.replied)) same
+              (turns (n % W)).noted (list_at h.sent a) (list_at h.writes a) (maps_seen x.replied)
+              z.0) same
               (subst (λ ws. IsApplicationCoupled i h rx_own t.tx.sizes (own (p.actor.app % W)) c
-              seats
-              execution p.actor.app (list_at h.sent a) ws (maps_seen x.replied)) (sym j.writes)
+              seats execution p.actor.app (turns (p.actor.app % W)).noted (list_at h.sent a) ws
+              (maps_seen x.replied) z.0) (sym j.writes)
               (subst (λ ss. IsApplicationCoupled i h rx_own t.tx.sizes (own (p.actor.app % W)) c
-              seats
-              execution p.actor.app ss p.actor.writes.items (maps_seen x.replied)) (sym j.sent)
-              is)),
+              seats execution p.actor.app (turns (p.actor.app % W)).noted ss p.actor.writes.items
+              (maps_seen x.replied) z.0) (sym j.sent) z.1)),
         )
 
   -- without replies there is nothing to coupling
-  uncoupled : (a : ℕ) → A ≤ a → IsCoupled a (λ k w. 0)
+  uncoupled : (a : ℕ) → A ≤ a → IsCoupled a (λ k w. 0, λ n. 0)
   uncoupled a more =
       record {
         found = λ k s at. nothing k s at;
@@ -114,6 +123,7 @@ module _ (law : ApplicationsAreCoupled) (i : Input) (h : History) (t : StageView
         writes_are =
             subst (λ ss. AreRecorded i h c seats rx_own a (map (λ (s : Sent). s.id) ss)
             (list_at h.writes a)) (sym none) unwritten;
+        made = λ less. absurd (omega (arith, more, less));
       }
     where
       none : list_at h.sent a ≡ []
@@ -133,14 +143,14 @@ module _ (law : ApplicationsAreCoupled) (i : Input) (h : History) (t : StageView
           h.tx_choices (board-turns i h t crew turns rx_own own e) a more))
           ∙ at)
 
-  all-coupled : (seen : ℕ → ℕ → ℕ → ℕ) × ((a : ℕ) → IsCoupled a (seen a))
-  all-coupled = chosen IsCoupled A (λ k w. 0) coupled uncoupled
+  all-coupled : (seen : ℕ → Seen) × ((a : ℕ) → IsCoupled a (seen a))
+  all-coupled = chosen IsCoupled A (λ k w. 0, λ n. 0) coupled uncoupled
 
-  keep-coupling : ApplicationsCoupled i h t rx_own own c seats execution
+  keep-coupling : ApplicationsCoupled i h t crew turns rx_own own c seats execution
   keep-coupling =
       let y = all-coupled in
       record {
-        seen = y.0;
+        seen = λ a. (y.0 a).0;
         keeps = record {
           turns = keep-turns W A own (λ w. (turns w).replied) h.tx_choices
               (board-turns i h t crew turns rx_own own e) _
@@ -158,6 +168,8 @@ module _ (law : ApplicationsAreCoupled) (i : Input) (h : History) (t : StageView
         queues = λ a. (y.1 a).queues;
         stands = λ a. (y.1 a).stands;
         writes = λ a. (y.1 a).writes_are;
+        reply = λ a. (y.0 a).1;
+        made = λ a. (y.1 a).made;
       }
 
 pub applications_keep_coupling : ApplicationsAreCoupled → ApplicationsKeepCoupling

@@ -20,6 +20,7 @@ use Rattle.run_words.specs.Lists.{oldest_first}
 use Rattle.run_workers.specs.Records.Polling.{choices_in}
 use Rattle.run_workers.specs.Records.Replying.{EachReplied, IsReplying, RepliedTurn, replies_in}
 use Rattle.run_workers.specs.Records.Replying.{reply_turns}
+use Rattle.run_workers.specs.Records.Words.{Note}
 use Rattle.run_workers.specs.Actors.{Each, KeepsServer}
 use Rattle.run_workers.specs.Stages.{StageView}
 use Rattle.run_crew.specs.Crews.{IsPlayed, servers_of}
@@ -52,10 +53,10 @@ module _ (rows start : ℕ) (given : Setup) (packets app home : ℕ) (arrivals :
           ap (λ zs. zs ++ x ∷ []) same ∙ ap (λ z. ys ++ z ∷ []) is_same
 
 pub replies-chosen : (given : Setup) (rows start : ℕ) (arrivals : List Arrival) (s : Server)
-    (turns : List (StepBy Turn)) (rx : List BoardStep) (hints : List HintStep)
-    → IsReplying given rows start arrivals s turns rx hints
+    (turns : List (StepBy Turn)) (noted : List (StepBy Note)) (rx : List BoardStep)
+    (hints : List HintStep) → IsReplying given rows start arrivals s turns noted rx hints
     → map (λ (c : Chosen). c.id) s.choices.items ≡ map (λ (r : Sent). r.id) s.sent.items
-replies-chosen given rows start arrivals s turns rx hints x =
+replies-chosen given rows start arrivals s turns noted rx hints x =
     ap (map (λ (c : Chosen). c.id)) (x.choices ∙ ap choices_in (sym x.own))
     ∙ (ids-same rows start given s.sent.room s.app s.home arrivals hints x.replied x.are
     ∙ sym (ap (map (λ (r : Sent). r.id)) x.replies))
@@ -76,7 +77,7 @@ module _ (i : Input) (h : History) (t : StageView) (crew : List Seated) (turns :
 
   pub keeps-server : (a : ℕ) (p : IsPlayed crew servers_of a)
       → KeepsServer t p.by.seats (has (a % W) p.by p.worker).is.rows
-      (has (a % W) p.by p.worker).is.replies (a / W) p.actor
+      (has (a % W) p.by p.worker).is.replies (has (a % W) p.by p.worker).is.noted (a / W) p.actor
   keeps-server a p = (has (a % W) p.by p.worker).is.servers (a / W) p.actor p.is
 
   pub app-is : (a : ℕ) (p : IsPlayed crew servers_of a) → p.actor.app ≡ a
@@ -122,7 +123,7 @@ module _ (i : Input) (h : History) (t : StageView) (crew : List Seated) (turns :
           let j = e.journals a less p in
           ap (map (λ (c : Chosen). c.id)) j.choices
           ∙ (replies-chosen t.shared.given y.is.rows t.tx.sizes.start t.late p.actor y.is.replies
-          p.by.seats.rx.steps p.by.seats.hint.steps (keeps-server a p).keeps
+          y.is.noted p.by.seats.rx.steps p.by.seats.hint.steps (keeps-server a p).keeps
           ∙ sym (ap (map (λ (s : Sent). s.id)) j.sent))
       at (inr more) =
           let chosen = e.choice_count in

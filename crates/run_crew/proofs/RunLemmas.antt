@@ -1,38 +1,48 @@
 -- The coupling invariants of all threads, put together.
-use Rattle.std.proofs.Common.{◌≡◌, ◌⊎◌, inl, inr, ℕ, ◌/◌, ◌%◌, ◌<◌, ◌≤◌}
-use Rattle.std.proofs.Common.{[], ◌∷◌, Some, length, map, sym, ap, ◌∙◌}
+use Rattle.std.proofs.Common.{◌≡◌, ◌⊎◌, inl, inr, ℕ, ◌+◌, ◌%◌, ◌<◌, ◌≤◌}
+use Rattle.std.proofs.Common.{List, [], ◌∷◌, Some, length, map, sym, ap, ◌∙◌}
 use Rattle.std.proofs.Common.{subst, arith}
 use Rattle.std.specs.Prelude.{slice_get}
 use Rattle.std.specs.List.{Contains}
 use Rattle.std.proofs.lemmas.Bool.{cases_lt}
 use Rattle.std.proofs.lemmas.List.{get_or_past, length-append, length-map}
 use Rattle.std.proofs.lemmas.List.FromFn.{length-range_with_len}
-use Rattle.std.proofs.lemmas.Nat.{div-mul-add}
+use Rattle.std.specs.Option.{option_map}
+use Rattle.std.proofs.lemmas.List.Elements.{All-contains}
+use Rattle.std.proofs.lemmas.Option.{slice_get-map}
+use Rattle.linearization.specs.Orders.{StepBy, steps_of}
 use Rattle.linearization.specs.Seats.{SeatView}
 use Rattle.steer_base.specs.declared.choice.Chosen.{Chosen}
 use Rattle.hint_words.specs.declared.step.HintStep.{HintStep}
+use Rattle.hint_words.specs.declared.step.HintStep.TheVariants.{Store}
 use Rattle.history.specs.Lists.{arrivals_at, list_at}
 use Rattle.history.specs.declared.arrival.Arrival.{Arrival}
 use Rattle.history.specs.declared.history.History.{History}
-use Rattle.history.specs.declared.sock_write.SockWrite.{SockWrite}
 use Rattle.hop_rule.specs.Events.{sum_below}
 use Rattle.board_api.specs.Closings.Closings.{own_in}
 use Rattle.hop_delivery.specs.Orders.Runs.{Execution}
-use Rattle.steer_model.specs.Good.Inputs.{Input}
-use Rattle.steer_model.specs.State.Setup.{app_for}
+use Rattle.hop_rule.specs.Moments.{nth_step}
+use Rattle.hop_rule.specs.declared.sizes.BoardSizes.{BoardSizes}
+use Rattle.steer_model.specs.Good.Inputs.{Input, setup_in}
+use Rattle.steer_model.specs.State.Setup.{app_for, packet_hash}
 use Rattle.run_coupling.specs.Laws.OneCount.{TotalsAreEqual, choice_count}
 use Rattle.run_coupling.specs.Coupling.Deliveries.{AllDeliverTo}
 use Rattle.run_coupling.specs.Coupling.Hints.{StoresAreMeant}
+use Rattle.run_coupling.specs.Coupling.Marks.{IsMadeFor, KeepsMarks, MarksAreOfTurns, WasMarked}
+use Rattle.run_coupling.specs.Coupling.Marks.{WireIsInTurn, WritesAreMarked}
 use Rattle.run_coupling.specs.Coupling.Runs.{IsRun}
 use Rattle.run_coupling.proofs.Ends.ChoiceCountLemmas.{choices_suffice}
 use Rattle.run_coupling.proofs.Ends.HandLemmas.{empty_hands_retired}
 use Rattle.run_coupling.proofs.Lists.SumLemmas.{sum-le}
 use Rattle.run_crew.specs.ApplicationCoupling.{ApplicationsAreCoupled}
-use Rattle.run_crew.specs.QueueCoupling.{PollersAreCoupled}
+use Rattle.run_crew.specs.QueueCoupling.{IsMarkedBy, PollersAreCoupled}
 use Rattle.run_workers.specs.Records.Storing.{StoresAreFor}
-use Rattle.run_crew.specs.StoreCoupling.{IsNoted, StoresAreMeantByEach, WorkersStoresAreMeant}
-use Rattle.run_workers.specs.Actors.{actor_at}
-use Rattle.run_crew.specs.Crews.{IsPlayed, drains_of, servers_of, ships_of}
+use Rattle.run_words.specs.Lists.{oldest_first}
+use Rattle.run_workers.specs.Records.Words.{Mark, Note}
+use Rattle.run_crew.specs.StoreCoupling.{IsNoted, StoresAreCoupled, StoresAreMeantByEach}
+use Rattle.run_crew.specs.StoreCoupling.{StoresInTurn, WorkersStoresAreMeant}
+use Rattle.run_workers.specs.Actors.{IsTurnOfOne, actor_at}
+use Rattle.run_crew.specs.Crews.{drains_of, ships_of}
 use Rattle.run_crew.specs.declared.seated.Seated.{Seated}
 use Rattle.run_crew.specs.DrainLaws.{DrainsAreCoupled}
 use Rattle.run_crew.specs.QueueLaws.{QueuesAreCoupled}
@@ -40,14 +50,17 @@ use Rattle.run_crew.specs.ReplyLaws.{ApplicationsCoupled}
 use Rattle.run_crew.specs.RunLaws.{EndedRunsAreRuns, RunEnds}
 use Rattle.run_crew.specs.Executions.{queue_execution, reply_execution}
 use Rattle.run_crew.proofs.ArrivalLemmas.{arrivals-below, none-at}
-use Rattle.run_crew.proofs.ChoiceFunctions.{is-within}
+use Rattle.run_crew.proofs.ChoiceFunctions.{is-within, item-at}
 use Rattle.run_crew.proofs.CountLemmas.{full_counts_suffice}
 use Rattle.run_crew.proofs.DrainLemmas.{drains_keep_coupling}
 use Rattle.run_crew.proofs.QueueLemmas.{queues_keep_coupling}
 use Rattle.run_crew.proofs.QueueTurnLemmas as queues
 use Rattle.run_crew.proofs.ReplyLemmas.{applications_keep_coupling}
-use Rattle.run_crew.proofs.StoreLemmas.{arrivals-meant, commands-meant}
-use Rattle.run_crew.proofs.ExecutionLemmas.{actor-is, actor-seat, by-seat}
+use Rattle.run_crew.proofs.StoreLemmas.{arrivals-in-turn, arrivals-meant, commands-in-turn}
+use Rattle.run_crew.proofs.StoreLemmas.{commands-meant, commands-quiet}
+use Rattle.run_crew.proofs.StoreCouplingLemmas.{turn_at}
+use Rattle.run_crew.proofs.TurnListLemmas.{nth-oldest}
+use Rattle.run_crew.proofs.ExecutionLemmas.{actor-seat, by-seat}
 
 -- What is known of records, in the words of the laws of `coupling_laws` and `laws`.
 pub record RecordLaws : Type 0 where
@@ -65,8 +78,8 @@ module _ (laws : RecordLaws) (i : Input) (h : History) (e : RunEnds i h) where
 
   -- ---- counts
 
-  sent-coupled : ApplicationsCoupled i h e.t (own_in e.rx_seats) (own_in e.tx_seats) e.codes
-      e.hint_seats
+  sent-coupled : ApplicationsCoupled i h e.t e.crew e.turns (own_in e.rx_seats) (own_in e.tx_seats)
+      e.codes e.hint_seats
       (reply_execution e.crew e.turns h.tx_choices (λ a. map (λ s. s.id) (list_at h.sent a)))
   sent-coupled =
       applications_keep_coupling laws.applications i h e.t e.crew e.turns (own_in e.rx_seats)
@@ -120,7 +133,8 @@ module _ (laws : RecordLaws) (i : Input) (h : History) (e : RunEnds i h) where
           (get_or_past h.choices q [] (omega (arith, more, count)))
           ∙ sym (none-at Q h.arrivals e.within q more)
 
-  queues-coupled : QueuesAreCoupled i h e.t (own_in e.rx_seats) e.codes e.hint_seats
+  queues-coupled : QueuesAreCoupled i h e.t e.crew e.turns (own_in e.rx_seats) e.codes
+      e.hint_seats
       (queue_execution e.crew e.turns h.choices (arrivals_at h.arrivals))
   queues-coupled =
       queues_keep_coupling laws.pollers i h e.t e.crew e.turns (own_in e.rx_seats) e.codes
@@ -145,76 +159,81 @@ module _ (laws : RecordLaws) (i : Input) (h : History) (e : RunEnds i h) where
   abbrev execution : Execution
   execution = queue_execution e.crew e.turns h.choices (arrivals_at h.arrivals)
 
+  -- what an actor of a seat made is at the place of the actor's number
+  actor-place : (about : BoardSizes) (w : ℕ) (x : Seated) → about.seats ≡ W + 1
+      → slice_get e.crew w ≡ Some x → (by number k : ℕ) → by ≡ actor_at about number k
+      → number ≡ w → by % W ≡ w
+  actor-place about w x seats there by number k own is =
+      ap (λ n. n % W) (own ∙ ap (λ n. actor_at about n k) is)
+      ∙ actor-seat about W w k seats (is-within e.crew w x there)
+
   -- a write that a worker noted is the history's
-  noted-by : (w : ℕ) (x : Seated) (there : slice_get e.crew w ≡ Some x) (write : SockWrite)
-      → Contains (e.turns w).noted write → IsNoted i h write
-  noted-by w x there write has =
+  noted-by : (w : ℕ) (x : Seated) → slice_get e.crew w ≡ Some x → (n : StepBy Note)
+      → Contains (e.turns w).noted n → IsNoted i h sent-coupled.reply n
+  noted-by w x there n has =
       let y = e.received.turns_are.workers w x there in
-      let one = y.is.noted_by write (subst (λ ws. Contains ws write) (sym y.noted) has) in
-      let k = one.0 in
-      let v = one.1 in
-      let keeps = y.is.servers k v one.2 in
-      let less = is-within e.crew w x there in
-      let number = e.received.work.tx_numbers w x there in
-      let app : v.app ≡ actor_at e.t.tx.sizes w k =
-      keeps.own ∙ ap (λ n. actor_at e.t.tx.sizes n k) number in
-      let seat : v.app % W ≡ w =
-      ap (λ n. n % W) app
-      ∙ actor-seat e.t.tx.sizes W w k e.received.work.tx_count less in
-      let place : v.app / W ≡ k =
-      ap (λ n. n / W)
-      (app ∙ actor-is e.t.tx.sizes W w k e.received.work.tx_count e.received.work.some)
-      ∙ div-mul-add k W w less in
-      let p : IsPlayed e.crew servers_of v.app = record {
-        by = x;
-        actor = v;
-        worker = ap (slice_get e.crew) seat ∙ there;
-        is = ap (slice_get x.worker.servers.items) place ∙ one.2;
-      } in
+      let one = All-contains (IsTurnOfOne e.t.tx.sizes x.seats.tx.number
+      (length x.worker.servers.items)) y.is.noted n y.is.noted_by
+      (subst (λ ns. Contains ns n) (sym y.noted) has) in
+      let v = item-at x.worker.servers.items one.0 one.1 in
+      let keeps = y.is.servers one.0 v.0 v.1 in
+      let app : n.by ≡ v.0.app = one.2 ∙ sym keeps.own in
       let within = keeps.within in
       let count = e.sent.out_count in
+      let less : n.by < length i.plan.apps = omega (arith, app, within, count) in
+      let seat : n.by % W ≡ w = actor-place e.t.tx.sizes w x e.received.work.tx_count there n.by
+      x.seats.tx.number one.0 one.2 (e.received.work.tx_numbers w x there) in
+      let made = sent-coupled.made n.by less in
+      let notes : List Note = oldest_first (steps_of n.by (e.turns (n.by % W)).noted) in
+      let k = turn_at (e.turns w).noted n has in
+      let at : slice_get notes k.0 ≡ Some n.step =
+      nth-oldest (steps_of n.by (e.turns (n.by % W)).noted) k.0 n.step
+      (ap (λ m. nth_step (steps_of n.by (e.turns m).noted) k.0) seat ∙ k.1) in
       record {
-        app = v;
-        rows = y.is.rows;
-        start = e.t.tx.sizes.start;
-        arrivals = e.t.late;
-        turns = y.is.replies;
-        rx = x.seats.rx.steps;
-        hints = x.seats.hint.steps;
-        keeps = subst (λ g. Rattle.run_workers.specs.Records.Replying.IsReplying g y.is.rows
-            e.t.tx.sizes.start e.t.late v y.is.replies x.seats.rx.steps x.seats.hint.steps)
-            e.received.given keeps.keeps;
-        writes = (e.sent.journals v.app (omega (arith, within, count)) p).writes;
-        there = one.3;
+        index = k.0;
+        is = ap (λ ws. slice_get ws k.0) made.are
+            ∙ (slice_get-map (λ (z : Note). z.write) notes k.0
+            ∙ ap (option_map (λ (z : Note). z.write)) at);
+        made = made.each k.0 n.step at;
       }
 
-  worker-meant : (w : ℕ) (x : Seated) → slice_get e.crew w ≡ Some x
-      → StoresAreMeant i h e.codes (x.seats.hint ∷ []) execution
-  worker-meant w x there =
+  worker-coupled : (w : ℕ) (x : Seated) → slice_get e.crew w ≡ Some x
+      → StoresAreCoupled i h e.codes e.hint_seats execution sent-coupled.reply (e.turns w).marks
+      x.seats.hint
+  worker-coupled w x there =
       let y = e.received.turns_are.workers w x there in
-      laws.workers i h e.codes execution w (e.turns w).noted x.seats.hint e.shared
+      let s = e.turns w in
+      laws.workers i h e.codes e.hint_seats execution w sent-coupled.reply s.marks s.noted
+      x.seats.hint e.shared
       (by-seat W Q (own_in e.rx_seats) (λ v. (e.turns v).steered) h.choices
       (queues.board-turns i e.t e.crew e.turns (own_in e.rx_seats) h.choices e.received) w)
       (noted-by w x there)
-      (subst (λ g. StoresAreFor g i.plan.filters (e.turns w).steered (e.turns w).noted
-      x.seats.hint.steps) e.received.given
-      (subst (λ n. StoresAreFor e.t.shared.given n (e.turns w).steered (e.turns w).noted
-      x.seats.hint.steps) e.filters
-      (subst (λ ts. StoresAreFor e.t.shared.given e.t.shared.filters ts (e.turns w).noted
+      (subst (λ g. StoresAreFor g i.plan.filters s.steered s.marks s.noted x.seats.hint.steps)
+      e.received.given
+      (subst (λ n. StoresAreFor e.t.shared.given n s.steered s.marks s.noted x.seats.hint.steps)
+      e.filters
+      (subst (λ ts. StoresAreFor e.t.shared.given e.t.shared.filters ts s.marks s.noted
       x.seats.hint.steps) y.steered
-      (subst (λ ws. StoresAreFor e.t.shared.given e.t.shared.filters y.is.turns ws
-      x.seats.hint.steps) y.noted y.is.stores))))
+      (subst (λ ms. StoresAreFor e.t.shared.given e.t.shared.filters y.is.turns ms s.noted
+      x.seats.hint.steps) y.marks
+      (subst (λ ns. StoresAreFor e.t.shared.given e.t.shared.filters y.is.turns y.is.marks ns
+      x.seats.hint.steps) y.noted y.is.stores)))))
+
+  -- a seat is a worker's, the controller's or the wire's
+  abbrev IsSeat : SeatView HintStep → Type 0
+  IsSeat seat =
+      ((w : ℕ) × (x : Seated) × (slice_get e.crew w ≡ Some x) × (x.seats.hint ≡ seat))
+      ⊎ (e.controller ≡ seat) ⊎ (e.wire ≡ seat)
 
   stores-meant : StoresAreMeant i h e.codes e.hint_seats execution
   stores-meant =
       laws.each i h e.codes execution e.hint_seats (λ seat has. at seat (e.hints.each seat has))
     where
-      at : (seat : SeatView HintStep)
-          → ((w : ℕ) × (x : Seated) × (slice_get e.crew w ≡ Some x) × (x.seats.hint ≡ seat))
-          ⊎ (e.controller ≡ seat) ⊎ (e.wire ≡ seat)
+      at : (seat : SeatView HintStep) → IsSeat seat
           → StoresAreMeant i h e.codes (seat ∷ []) execution
       at seat (inl (w, x, there, is)) =
-          subst (λ s. StoresAreMeant i h e.codes (s ∷ []) execution) is (worker-meant w x there)
+          subst (λ s. StoresAreMeant i h e.codes (s ∷ []) execution) is
+          (worker-coupled w x there).meant
       at seat (inr (inl is)) =
           subst (λ s. StoresAreMeant i h e.codes (s ∷ []) execution) is
           (commands-meant i h e.codes execution e.controller e.shared e.t.rx.sizes e.t.tx.sizes
@@ -222,6 +241,193 @@ module _ (laws : RecordLaws) (i : Input) (h : History) (e : RunEnds i h) where
       at seat (inr (inr is)) =
           subst (λ s. StoresAreMeant i h e.codes (s ∷ []) execution) is
           (arrivals-meant i h e.codes execution e.wire e.shared e.hint_seats e.arrivals)
+
+  -- ---- their order
+
+  -- the marks of a seat; a seat that is no worker's has none
+  abbrev marks-at : (seat : SeatView HintStep) → IsSeat seat → List (StepBy Mark)
+  marks-at seat (inl (w, x, there, is)) = (e.turns w).marks
+  marks-at seat (inr other) = []
+
+  in-turn : (seat : SeatView HintStep) (s : IsSeat seat)
+      → StoresInTurn i h e.codes e.hint_seats execution sent-coupled.reply (marks-at seat s) seat
+  in-turn seat (inl (w, x, there, is)) =
+      subst (StoresInTurn i h e.codes e.hint_seats execution sent-coupled.reply (e.turns w).marks)
+      is (worker-coupled w x there).in_turn
+  in-turn seat (inr (inl is)) =
+      subst (StoresInTurn i h e.codes e.hint_seats execution sent-coupled.reply []) is
+      (commands-in-turn i h e.codes execution e.controller e.shared e.t.rx.sizes e.t.tx.sizes
+      (own_in e.rx_seats) (own_in e.tx_seats) e.tries e.commands e.hint_seats sent-coupled.reply)
+  in-turn seat (inr (inr is)) =
+      subst (StoresInTurn i h e.codes e.hint_seats execution sent-coupled.reply []) is
+      (arrivals-in-turn i h e.codes execution e.wire e.shared e.hint_seats e.arrivals
+      sent-coupled.reply)
+
+  seat-in-turn : (seat : SeatView HintStep) (has : Contains e.hint_seats seat)
+      → StoresInTurn i h e.codes e.hint_seats execution sent-coupled.reply
+      (marks-at seat (e.hints.each seat has)) seat
+  seat-in-turn seat has = in-turn seat (e.hints.each seat has)
+
+  -- ---- the wire
+
+  wire-in-turn : WireIsInTurn i h e.codes e.hint_seats
+  wire-in-turn =
+      record {
+        wire = e.wire;
+        among = e.arrivals.among;
+        look = e.arrivals.in_turn.look;
+        looks = e.arrivals.in_turn.looks;
+        tells = λ seat x y n value hash has le less some at.
+            tells seat x y n value hash le some at (e.hints.each seat has);
+      }
+    where
+      tells : (seat : SeatView HintStep) (x y n value hash : ℕ) → x ≤ y
+          → packet_hash (setup_in i) x ≡ Some hash
+          → nth_step seat.steps n ≡ Some (Store (e.codes.packet y) value) → IsSeat seat
+          → (seat ≡ e.wire) × (e.arrivals.in_turn.look x < n)
+      tells seat x y n value hash le some at (inl (w, z, there, is)) =
+          absurd ((worker-coupled w z there).quiet y n value
+          (subst (λ (s : SeatView HintStep). nth_step s.steps n
+          ≡ Some (Store (e.codes.packet y) value)) (sym is) at))
+      tells seat x y n value hash le some at (inr (inl is)) =
+          absurd (commands-quiet i h e.codes execution e.controller e.shared e.t.rx.sizes
+          e.t.tx.sizes (own_in e.rx_seats) (own_in e.tx_seats) e.tries e.commands y n value
+          (subst (λ (s : SeatView HintStep). nth_step s.steps n
+          ≡ Some (Store (e.codes.packet y) value)) (sym is) at))
+      tells seat x y n value hash le some at (inr (inr is)) = (
+        sym is,
+        e.arrivals.in_turn.tells x y n value hash le some
+            (subst (λ (s : SeatView HintStep). nth_step s.steps n
+            ≡ Some (Store (e.codes.packet y) value)) (sym is) at),
+      )
+
+  -- ---- marks
+
+  marked-as : (queue : ℕ) (less : queue < Q) (at seat : SeatView HintStep)
+      (marks : List (StepBy Mark)) → at ≡ seat
+      → IsMarkedBy i e.codes e.hint_seats execution queue (queues-coupled.seen queue)
+      (queues-coupled.wants queue less) at marks → (packet n k : ℕ) (m : Mark)
+      → nth_step (steps_of queue marks) k ≡ Some m → m.packet ≡ packet → m.number ≡ n
+      → WasMarked i h e.codes e.hint_seats execution queues-coupled.seen queues-coupled.wants seat
+      packet n
+  marked-as queue less at seat marks same x packet n k m there packet_is number_is =
+      let each = x.each k m there in
+      record {
+        queue = queue;
+        within = less;
+        index = k;
+        turn = each.0;
+        is = each.1;
+        packet_is = each.2 ∙ packet_is;
+        seat_is = x.seat_is ∙ same;
+        step_is = each.3 ∙ number_is;
+      }
+
+  -- a mark of a worker is of a turn of one of its queues
+  mark-of-turn : (w : ℕ) (x : Seated) → slice_get e.crew w ≡ Some x
+      → (seat : SeatView HintStep) → x.seats.hint ≡ seat → (packet n : ℕ)
+      → ((m : StepBy Mark) × Contains (e.turns w).marks m × (m.step.packet ≡ packet)
+      × (m.step.number ≡ n))
+      → WasMarked i h e.codes e.hint_seats execution queues-coupled.seen queues-coupled.wants seat
+      packet n
+  mark-of-turn w x there seat seat_is packet n (m, has, packet_is, number_is) =
+      let y = e.received.turns_are.workers w x there in
+      let one = All-contains (IsTurnOfOne e.t.rx.sizes x.seats.rx.number
+      (length x.worker.pollers.items)) y.is.marks m y.is.marked_by
+      (subst (λ ms. Contains ms m) (sym y.marks) has) in
+      let p = item-at x.worker.pollers.items one.0 one.1 in
+      let keeps = y.is.pollers one.0 p.0 p.1 in
+      let queue : m.by ≡ p.0.queue = one.2 ∙ sym keeps.own in
+      let within = keeps.within in
+      let count = queues.home-count i e.t e.crew e.turns (own_in e.rx_seats) h.choices e.received
+      in
+      let less : m.by < Q = omega (arith, queue, within, count) in
+      let at_seat : m.by % W ≡ w = actor-place e.t.rx.sizes w x e.received.work.rx_count there
+      m.by x.seats.rx.number one.0 one.2 (e.received.work.rx_numbers w x there) in
+      let k = turn_at (e.turns w).marks m has in
+      marked-as m.by less x.seats.hint seat (e.turns (m.by % W)).marks seat_is
+      (queues-coupled.marks m.by less x (ap (slice_get e.crew) at_seat ∙ there)) packet n k.0 m.step
+      (ap (λ v. nth_step (steps_of m.by (e.turns v).marks) k.0) at_seat ∙ k.1) packet_is number_is
+
+  marks-of-turns : MarksAreOfTurns i h e.codes e.hint_seats execution queues-coupled.seen
+      queues-coupled.wants
+  marks-of-turns seat x n value has less at = by (e.hints.each seat has)
+    where
+      by : IsSeat seat → WasMarked i h e.codes e.hint_seats execution queues-coupled.seen
+          queues-coupled.wants seat x n
+      by (inl (w, z, there, is)) =
+          mark-of-turn w z there seat is x n
+          ((in-turn seat (inl (w, z, there, is))).marks_are x n value at)
+      by (inr other) =
+          let m = (in-turn seat (inr other)).marks_are x n value at in
+          absurd (let low = m.1.1 in omega (arith, low))
+
+  -- ---- writes
+
+  writes-marked : WritesAreMarked i h e.codes e.hint_seats
+  writes-marked =
+      record {
+        reply = sent-coupled.reply;
+        rise = λ a m n before within.
+            (sent-coupled.made a (in-apps a n within)).rise m n before
+            (subst (λ k. n < k) (note-count a (in-apps a n within)) within);
+        made_for = λ a n within. for-reply a n (in-apps a n within) within;
+        stored = λ seat n place cpu has less at.
+            (seat-in-turn seat has).writes n place cpu less at;
+      }
+    where
+      in-apps : (a n : ℕ) → n < length (list_at h.writes a) → a < length i.plan.apps
+      in-apps a n within = by (cases_lt a (length i.plan.apps))
+        where
+          by : (a < length i.plan.apps) ⊎ (length i.plan.apps ≤ a) → a < length i.plan.apps
+          by (inl less) = less
+          by (inr more) =
+              let count = e.sent.write_count in
+              let none = ap length (get_or_past h.writes a [] (omega (arith, more, count))) in
+              absurd (omega (arith, within, none))
+
+      note-count : (a : ℕ) → a < length i.plan.apps
+          → length (list_at h.writes a)
+          ≡ length (oldest_first (steps_of a (e.turns (a % W)).noted))
+      note-count a less =
+          ap length (sent-coupled.made a less).are
+          ∙ length-map (oldest_first (steps_of a (e.turns (a % W)).noted)) (λ (z : Note). z.write)
+
+      for-reply : (a n : ℕ) → a < length i.plan.apps → n < length (list_at h.writes a)
+          → IsMadeFor i h e.codes e.hint_seats a n (sent-coupled.reply a n)
+      for-reply a n less within =
+          let made = sent-coupled.made a less in
+          let count = note-count a less in
+          let note = item-at (oldest_first (steps_of a (e.turns (a % W)).noted)) n
+          (subst (λ k. n < k) count within) in
+          let for = made.each n note.0 note.1 in
+          record {
+            write = note.0.write;
+            sent = for.reply;
+            is = ap (λ ws. slice_get ws n) made.are
+                ∙ (slice_get-map (λ (z : Note). z.write)
+                (oldest_first (steps_of a (e.turns (a % W)).noted)) n
+                ∙ ap (option_map (λ (z : Note). z.write)) note.1);
+            for = for.for;
+            size = for.size;
+            entry = for.entry;
+          }
+
+  -- ---- all marks
+
+  keeps-marks : KeepsMarks i h e.codes e.hint_seats execution queues-coupled.seen
+      queues-coupled.wants
+  keeps-marks =
+      record {
+        wire = wire-in-turn;
+        filters = λ seat n place f has less low small at.
+            (seat-in-turn seat has).filters n place f less low small at;
+        marks = marks-of-turns;
+        writes = writes-marked;
+        entries = λ place value less w.
+            (seat-in-turn w.seat w.among).entries place value w.writes.step less w.writes.does
+            w.writes.writes;
+      }
 
   -- ---- the run
 
@@ -284,6 +490,7 @@ module _ (laws : RecordLaws) (i : Input) (h : History) (e : RunEnds i h) where
           stands = a.stands;
           writes = a.writes;
         };
+        marks = keeps-marks;
       }
 
 pub ended_runs_are_runs : RecordLaws → EndedRunsAreRuns

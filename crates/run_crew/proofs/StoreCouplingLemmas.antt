@@ -1,17 +1,17 @@
 -- The stores of a worker's seat give the coupling invariant of all stores.
-use Rattle.std.proofs.Common.{◌≡◌, ◌⊎◌, inl, inr, ℕ, suc, ◌+◌, ◌<◌, ◌≤◌, Bool, true}
+use Rattle.std.proofs.Common.{◌≡◌, inl, inr, ℕ, ◌+◌, ◌<◌, ◌≤◌, Bool, true}
 use Rattle.std.proofs.Common.{List, [], ◌∷◌, Option, None, Some, All, if◌then◌else◌, length}
-use Rattle.std.proofs.Common.{sym, refl, ap, ◌∙◌, subst, arith, ◌==◌, ◌%◌, false}
-use Rattle.std.specs.Prelude.{nat_le, nat_lt, slice_get}
+use Rattle.std.proofs.Common.{sym, refl, ap, ◌∙◌, subst, arith, ◌==◌, false}
+use Rattle.std.specs.Prelude.{nat_lt}
 use Rattle.std.specs.List.{Contains, position, position_or_len}
 use Rattle.std.specs.Option.{option_map}
-use Rattle.std.proofs.lemmas.Bool.{cases_Bool, leb-true, ltb-true}
+use Rattle.std.proofs.lemmas.Bool.{cases_Bool, ltb-true}
 use Rattle.std.proofs.lemmas.List.{length-map}
 use Rattle.std.proofs.lemmas.List.Elements.{All-contains}
 use Rattle.linearization.specs.Orders.{StepBy, steps_of}
 use Rattle.linearization.specs.Seats.{SeatView}
 use Rattle.linearization.proofs.ListLemmas.{if_same}
-use Rattle.steer_base.specs.Choices.{class_of, has_moved}
+use Rattle.steer_base.specs.Choices.{has_moved}
 use Rattle.steer_base.specs.Filters.{home_queue}
 use Rattle.steer_base.specs.declared.choice.Choice.{Choice}
 use Rattle.steer_base.specs.declared.filter.Filter.{Filter}
@@ -20,50 +20,46 @@ use Rattle.plan_reader.specs.declared.plan.QueuePlan.{QueuePlan}
 use Rattle.history.specs.declared.history.History.{History}
 use Rattle.history.specs.declared.sock_write.SockWrite.{SockWrite}
 use Rattle.hint_words.specs.Loads.{IsStoredBy}
+use Rattle.hint_words.specs.Steps.{value_written}
 use Rattle.hint_words.specs.declared.step.HintStep.{HintStep}
-use Rattle.hint_words.specs.declared.step.HintStep.TheVariants.{Store}
+use Rattle.hint_words.specs.declared.step.HintStep.TheVariants.{Load, Store}
 use Rattle.hop_rule.specs.Moments.{nth_step}
-use Rattle.hop_rule.specs.declared.step.BoardStep.{BoardStep}
 use Rattle.hop_rule.proofs.Lists.{none-some, some-is}
 use Rattle.hop_rule.proofs.Moments.{nth-inside, nth-last, nth-old}
 use Rattle.hop_delivery.specs.Orders.Runs.{Execution}
 use Rattle.hop_delivery.specs.Orders.Turns.{Turn}
 use Rattle.steer_model.specs.Good.Choices.{WasWritten}
 use Rattle.steer_model.specs.Good.Inputs.{Input, setup_in}
-use Rattle.steer_model.specs.State.Setup.{Setup, packet_hash}
+use Rattle.steer_model.specs.State.Setup.{packet_hash}
 use Rattle.steer_model.specs.Steps.Pollers.{filter_for}
-use Rattle.run_words.specs.Values.{filter_word, place_word, socket_size_in}
-use Rattle.run_words.specs.declared.hint_word.TheConstants.{FILTER_WORDS, QUEUE_WORDS}
-use Rattle.run_words.specs.declared.hint_word.TheConstants.{REDIRECTION_WORDS, STAND_WORDS}
+use Rattle.run_words.specs.Numbers.{hint_number}
+use Rattle.run_words.specs.Values.{filter_word, place_word}
+use Rattle.run_words.specs.declared.hint_word.HintWord.TheVariants as word
+use Rattle.run_words.specs.declared.hint_word.TheConstants.{FILTER_WORDS, REDIRECTION_WORDS}
+use Rattle.run_words.specs.declared.hint_word.TheConstants.{STAND_WORDS}
 use Rattle.run_coupling.specs.Laws.SharedCodes.{AreShared}
 use Rattle.run_coupling.specs.Coupling.Hints.{HintCodes, StoresAreMeant, WasFiltered}
-use Rattle.run_workers.specs.Records.Replying.{HasWritten, HasWrittenAll}
-use Rattle.run_workers.specs.Records.Storing.{IsFilterOf, IsWriteOf, StoresAreFor}
-use Rattle.run_crew.specs.StoreCoupling.{IsNoted, StoresAreMeantByEach, WorkersStoresAreMeant}
-use Rattle.run_workers.proofs.Records.StoringLemmas.{contains_split}
+use Rattle.run_coupling.specs.Coupling.Marks.{FoundSet, IsMarkedWrite}
+use Rattle.run_workers.specs.Records.Storing.{IsFilterOf, IsFor, IsWriteOf, StoresAreFor}
+use Rattle.run_workers.specs.Records.Words.{FoundBefore, Mark, Note}
+use Rattle.run_crew.specs.StoreCoupling.{IsEntryValue, IsNoted, StoresAreCoupled}
+use Rattle.run_crew.specs.StoreCoupling.{StoresAreMeantByEach, StoresInTurn, WorkersStoresAreMeant}
+use Rattle.run_crew.proofs.NoteLemmas.{class_below}
+use Rattle.run_crew.proofs.TurnListLemmas.{contains_split, has_number}
 
 abbrev Hint : Type 0
 Hint = SeatView HintStep
 
 -- ---- members of lists
 
--- a member of a list has a place in it
-member_at : {A : Type 0} (xs : List A) (x : A) → Contains xs x
-    → (k : ℕ) × (slice_get xs k ≡ Some x)
-member_at [] x (k, less, is) = absurd (omega (arith, less))
-member_at (y ∷ ys) x has = elim (contains_split y ys x has) [
-  | inl e ↦ (0, ap Some e)
-  | inr old ↦ (let k = member_at ys x old in (suc k.0, k.1))
-]
-
 -- a turn of a seat is one of the turns of its producer
-turn_at : (es : List (StepBy Turn)) (e : StepBy Turn) → Contains es e
+pub turn_at : {A : Type 0} (es : List (StepBy A)) (e : StepBy A) → Contains es e
     → (k : ℕ) × (nth_step (steps_of e.by es) k ≡ Some e.step)
 turn_at [] e (k, less, is) = absurd (omega (arith, less))
-turn_at (d ∷ es) e has = elim (contains_split d es e has) [
+turn_at {A} (d ∷ es) e has = elim (contains_split d es e has) [
   | inl same ↦ (
     length (steps_of e.by es),
-    subst (λ (z : StepBy Turn). nth_step (steps_of z.by (d ∷ es)) (length (steps_of z.by es))
+    subst (λ (z : StepBy A). nth_step (steps_of z.by (d ∷ es)) (length (steps_of z.by es))
         ≡ Some z.step) same
         (ap (λ us. nth_step us (length (steps_of d.by es)))
         (if_same d.by d.by (d.step ∷ steps_of d.by es) (steps_of d.by es) refl)
@@ -86,52 +82,30 @@ turn_at (d ∷ es) e has = elim (contains_split d es e has) [
       ap (λ b. nth_step (if b then d.step ∷ steps_of e.by es else steps_of e.by es) k) other ∙ at,
     )
 
--- ---- places and entries
+-- ---- steps
 
-class_below : (count : ℕ) (hash : Option ℕ) (k : ℕ) → class_of count hash ≡ Some k → k < count
-class_below count None k is = none-some k is
-class_below count (Some hash) k is = elim (cases_Bool (nat_lt 0 count)) [
-  | inl some ↦
-      let e : Some (hash % count) ≡ Some k = rw some at is in
-      let n : hash % count ≡ k = some-is (hash % count) k e in
-      let l = ltb-true 0 count some in
-      omega (arith, n, l)
-  | inr none ↦ absurd (let e : None ≡ Some k = rw none at is in cc)
+-- a store by one seat is one of its own
+pub own_store : (seat : Hint) (number value : ℕ) → IsStoredBy (seat ∷ []) number value
+    → Contains seat.steps (Store number value)
+own_store seat number value s = elim (contains_split seat [] s.seat s.among) [
+  | inl same ↦ subst (λ (z : Hint). Contains z.steps (Store number value)) (sym same) s.stores
+  | inr none ↦ absurd (let low = none.1 in omega (arith, low))
 ]
 
-size_within : (size : ℕ) → socket_size_in size ≤ MAX_SOCKET_SIZE
-size_within size = elim (cases_Bool (nat_le size MAX_SOCKET_SIZE)) [
-  | inl less ↦ rw less (leb-true size MAX_SOCKET_SIZE less)
-  | inr more ↦ rw more (omega arith)
-]
+-- a store writes its value at its word
+written_there : (number value : ℕ) → value_written number (Store number value) ≡ Some value
+written_there number value = if_same number number (Some value) None refl
 
--- an entry that an application wrote is within the table
-module _ (given : Setup) (app home : ℕ) (rx : List BoardStep) (hints : List HintStep) where
-  entry_within : (ids : List ℕ) (writes : List SockWrite)
-      → HasWrittenAll given app home rx hints ids writes → (write : SockWrite)
-      → Contains writes write → write.entry < MAX_SOCKET_SIZE
-  entry_within [] writes none write has =
-      absurd (let e = subst (λ ws. Contains ws write) none has in omega (arith, e.1))
-  entry_within (id ∷ ids) writes (size, rest, reads, wrote, others) write has =
-      by_entry (class_of (socket_size_in size) (packet_hash given id)) refl wrote
-      (entry_within ids rest others write)
-    where
-      by_entry : (entry : Option ℕ)
-          → class_of (socket_size_in size) (packet_hash given id) ≡ entry
-          → HasWritten given app home rx hints entry rest writes
-          → (Contains rest write → write.entry < MAX_SOCKET_SIZE)
-          → write.entry < MAX_SOCKET_SIZE
-      by_entry None is same before = before (subst (λ ws. Contains ws write) same has)
-      by_entry (Some entry) is (cpu, stood, ws) before =
-          elim (contains_split (record { entry = entry; cpu = cpu }) rest write
-          (subst (λ zs. Contains zs write) ws has)) [
-            | inl e ↦
-                let n = ap (λ (w : SockWrite). w.entry) e in
-                let l = class_below (socket_size_in size) (packet_hash given id) entry is in
-                let m = size_within size in
-                omega (arith, n, l, m)
-            | inr old ↦ before old
-          ]
+found_as : (seat : Hint) (coded number n : ℕ) → coded ≡ number
+    → FoundBefore seat.steps number n → FoundSet seat coded n
+found_as seat coded number n same found =
+    record {
+      step = found.step;
+      earlier = found.earlier;
+      value = found.value;
+      loads = found.loads ∙ ap (λ m. Some (Load m found.value)) (sym same);
+      set = found.set;
+    }
 
 -- ---- filters
 
@@ -174,93 +148,103 @@ one_queue f g below less same = omega (arith, below, less, same)
 
 -- ---- a worker's seat
 
-module _ (i : Input) (h : History) (c : HintCodes) (t : Execution) (q : ℕ) (noted : List SockWrite)
+module _ (i : Input) (h : History) (c : HintCodes) (seats : List Hint) (t : Execution) (q : ℕ)
+    (reply : (app write : ℕ) → ℕ) (marks : List (StepBy Mark)) (noted : List (StepBy Note))
     (seat : Hint) (codes : AreShared c)
     (mine : All (λ (e : StepBy Turn). t.seat e.by ≡ q) (t.turns q))
-    (are_noted : (write : SockWrite) → Contains noted write → IsNoted i h write)
-    (stores : StoresAreFor (setup_in i) i.plan.filters (t.turns q) noted seat.steps) where
-  -- a turn or a write for which this value was stored at this word
-  abbrev WasFor : ℕ → ℕ → Type 0
-  WasFor word value =
-      ((e : StepBy Turn) × Contains (t.turns q) e
-      × IsFilterOf (setup_in i) i.plan.filters e.step word value)
-      ⊎ ((write : SockWrite) × Contains noted write × IsWriteOf write word value)
+    (are_noted : (e : StepBy Note) → Contains noted e → IsNoted i h reply e)
+    (stores : StoresAreFor (setup_in i) i.plan.filters (t.turns q) marks noted seat.steps) where
+  -- a turn, a mark or a write for which this value was stored at this word with the step n
+  abbrev WasFor : ℕ → ℕ → ℕ → Type 0
+  WasFor n number value =
+      IsFor (setup_in i) i.plan.filters (t.turns q) marks noted seat.steps n number value
 
-  was_for : (word value : ℕ) → IsStoredBy (seat ∷ []) word value → WasFor word value
-  was_for word value s = elim (contains_split seat [] s.seat s.among) [
-    | inl e ↦ stores word value
-        (subst (λ (v : Hint). Contains v.steps (Store word value)) (sym e) s.stores)
-    | inr none ↦ absurd (omega (arith, none.1))
-  ]
+  at_step : (n number value : ℕ) → nth_step seat.steps n ≡ Some (Store number value)
+      → WasFor n number value
+  at_step n number value at =
+      stores n number value (Store number value) at (written_there number value)
 
-  write_within : (write : SockWrite) → Contains noted write → write.entry < MAX_SOCKET_SIZE
-  write_within write has =
-      let n = are_noted write has in
-      entry_within (setup_in i) n.app.app n.app.home n.rx n.hints _ n.app.writes.items
-      n.keeps.writes write n.there
+  was_for : (number value : ℕ) → IsStoredBy (seat ∷ []) number value
+      → (n : ℕ) × WasFor n number value
+  was_for number value s =
+      let at = has_number seat.steps (Store number value) (own_store seat number value s) in
+      (at.0, at_step at.0 number value at.1)
 
-  was_written : (write : SockWrite) → Contains noted write → WasWritten h write
-  was_written write has =
-      let n = are_noted write has in
-      let k = member_at n.app.writes.items write n.there in
-      (n.app.app, k.0, ap (λ ws. slice_get ws k.0) n.writes ∙ k.1)
+  write_within : (e : StepBy Note) → Contains noted e → e.step.write.entry < MAX_SOCKET_SIZE
+  write_within e has = (are_noted e has).made.entry_within
 
-  place_below : (e : StepBy Turn) (word value : ℕ)
-      (f : IsFilterOf (setup_in i) i.plan.filters e.step word value) → f.place < i.plan.filters
-  place_below e word value f =
+  was_written : (e : StepBy Note) → Contains noted e → WasWritten h e.step.write
+  was_written e has = let n = are_noted e has in (e.by, n.index, n.is)
+
+  place_below : (e : StepBy Turn) (number value : ℕ)
+      (f : IsFilterOf (setup_in i) i.plan.filters e.step number value) → f.place < i.plan.filters
+  place_below e number value f =
       class_below i.plan.filters (packet_hash (setup_in i) e.step.chosen.id) f.place f.there
 
   -- a word before the filters is that of a write
-  by_write : (word value : ℕ) → word < FILTER_WORDS → WasFor word value
-      → (write : SockWrite) × Contains noted write × IsWriteOf write word value
-  by_write word value less (inl (e, has, f)) =
-      absurd (let n = f.word_is in omega (arith, n, less))
-  by_write word value less (inr write) = write
+  by_write : (n number value : ℕ) → number < FILTER_WORDS → WasFor n number value
+      → (e : StepBy Note) × Contains noted e × IsWriteOf e.step.write number value
+      × FoundBefore seat.steps (hint_number (word.Steered e.step.packet)) n
+  by_write n number value less (inl (e, has, f, found)) =
+      absurd (let m = f.word_is in omega (arith, m, less))
+  by_write n number value less (inr (inl (e, has, m))) =
+      absurd (let at = m.1 in omega (arith, at, less))
+  by_write n number value less (inr (inr write)) = write
 
   -- and so it is an entry of the socket flow table
-  no_other : {A : Type 0} (word value : ℕ) → word < FILTER_WORDS → MAX_SOCKET_SIZE ≤ word
-      → WasFor word value → A
-  no_other word value less more was =
-      let w = by_write word value less was in
-      let n = w.2.0 in
+  no_other : {A : Type 0} (n number value : ℕ) → number < FILTER_WORDS
+      → MAX_SOCKET_SIZE ≤ number → WasFor n number value → A
+  no_other n number value less more was =
+      let w = by_write n number value less was in
+      let m = w.2.0 in
       let l = write_within w.0 w.1 in
-      absurd (omega (arith, n, l, more))
+      absurd (omega (arith, m, l, more))
+
+  same_write : (w : SockWrite) (place cpu : ℕ) → IsWriteOf w place (place_word cpu)
+      → w ≡ record { entry = place; cpu = cpu }
+  same_write w place cpu (entry, value) =
+      let same : w.cpu ≡ cpu = omega (arith, value) in
+      (λ j. record { entry = sym entry j; cpu = same j })
 
   socket_meant : (place cpu : ℕ) → place < MAX_SOCKET_SIZE
       → IsStoredBy (seat ∷ []) (c.socket place) (c.place cpu)
       → WasWritten h (record { entry = place; cpu = cpu })
   socket_meant place cpu less s =
-      let w = by_write place (cpu + 1) (omega (arith, less)) (was_for place (cpu + 1)
+      let was = was_for place (place_word cpu)
       (subst (λ (z : ℕ × ℕ). IsStoredBy (seat ∷ []) z.0 z.1)
-      (λ j. (codes.socket place j, codes.place cpu j)) s)) in
-      subst (λ (v : SockWrite). WasWritten h v)
-      (λ j. record { entry = sym w.2.0 j; cpu = same w.0.cpu w.2.1 j })
-      (was_written w.0 w.1)
-    where
-      same : (other : ℕ) → cpu + 1 ≡ place_word other → other ≡ cpu
-      same other e = omega (arith, e)
+      (λ j. (codes.socket place j, codes.place cpu j)) s) in
+      let w = by_write was.0 place (place_word cpu) (omega (arith, less)) was.1 in
+      subst (WasWritten h) (same_write w.0.step.write place cpu w.2) (was_written w.0 w.1)
 
-  filter_meant : (place : ℕ) (f : Filter) → place < i.plan.filters
+  -- a filter was stored for a turn whose packet had been found announced
+  filter_meant : (n place : ℕ) (f : Filter) → place < i.plan.filters
       → f.queue < length i.plan.queues
-      → WasFor (FILTER_WORDS + place) (filter_word f) → WasFiltered i t place f.queue
-  filter_meant place f less below (inr (write, has, is)) =
-      absurd (let l = write_within write has in let n = is.0 in omega (arith, l, n))
-  filter_meant place f less below (inl (e, has, x)) =
+      → WasFor n (FILTER_WORDS + place) (filter_word f)
+      → (w : WasFiltered i t place f.queue) × FoundSet seat (c.packet w.turn.chosen.id) n
+  filter_meant n place f less below (inr (inr (e, has, is, found))) =
+      absurd (let l = write_within e has in let m = is.0 in omega (arith, l, m))
+  filter_meant n place f less below (inr (inl (e, has, m))) =
+      absurd (let few = i.plan.within.filters_within in
+      let at = m.1 in omega (arith, at, less, few))
+  filter_meant n place f less below (inl (e, has, x, found)) =
       let turn = turn_at (t.turns q) e has in
       let moved = asked_moves (setup_in i).homes i.plan.filters e.step.chosen.choice x.position
-      x.filter x.asked in
-      record {
-        producer = e.by;
-        index = turn.0;
-        turn = e.step;
-        position = x.position;
-        is = ap (λ s. nth_step (steps_of e.by (t.turns s)) turn.0)
-            (All-contains (λ (d : StepBy Turn). t.seat d.by ≡ q) (t.turns q) e mine has) ∙ turn.1;
-        moved = moved.0;
-        home = moved.1 ∙ ap Some (queue_same moved.1);
-        accepted = x.accepted;
-        there = x.there ∙ ap Some (place_same x.word_is);
-      }
+      x.filter x.asked in (
+        record {
+          producer = e.by;
+          index = turn.0;
+          turn = e.step;
+          position = x.position;
+          is = ap (λ s. nth_step (steps_of e.by (t.turns s)) turn.0)
+              (All-contains (λ (d : StepBy Turn). t.seat d.by ≡ q) (t.turns q) e mine has) ∙ turn.1;
+          moved = moved.0;
+          home = moved.1 ∙ ap Some (queue_same moved.1);
+          accepted = x.accepted;
+          there = x.there ∙ ap Some (place_same x.word_is);
+        },
+        found_as seat (c.packet e.step.chosen.id) (hint_number (word.Queue e.step.chosen.id)) n
+            (codes.packet e.step.chosen.id) found,
+      )
     where
       place_same : FILTER_WORDS + place ≡ FILTER_WORDS + x.place → x.place ≡ place
       place_same e = omega (arith, e)
@@ -280,40 +264,118 @@ module _ (i : Input) (h : History) (c : HintCodes) (t : Execution) (q : ℕ) (no
           one_queue x.filter f (omega (arith, l, queues)) (omega (arith, below, m))
           (sym x.value_is)
 
-  packet_meant : {A : Type 0} (id value : ℕ) → WasFor (QUEUE_WORDS + id) value → A
-  packet_meant id value (inl (e, has, f)) =
-      let l = place_below e (QUEUE_WORDS + id) value f in
+  packet_meant : {A : Type 0} (n id value : ℕ) → WasFor n (hint_number (word.Queue id)) value → A
+  packet_meant n id value (inl (e, has, f, found)) =
+      let l = place_below e (hint_number (word.Queue id)) value f in
       let m = i.plan.within.filters_within in
-      let n = f.word_is in
-      absurd (omega (arith, l, m, n))
-  packet_meant id value (inr (write, has, is)) =
-      let l = write_within write has in let n = is.0 in absurd (omega (arith, l, n))
+      let is = f.word_is in
+      absurd (omega (arith, l, m, is))
+  packet_meant n id value (inr (inl (e, has, m))) =
+      absurd (let at = m.1 in omega (arith, at))
+  packet_meant n id value (inr (inr (e, has, is, found))) =
+      let l = write_within e has in let m = is.0 in absurd (omega (arith, l, m))
 
   meant : StoresAreMeant i h c (seat ∷ []) t
   meant =
       record {
         sockets = socket_meant;
         entries = λ place queue less s.
-            no_other (REDIRECTION_WORDS + place) (c.place queue) (omega (arith, less))
-            (omega arith) (was_for (REDIRECTION_WORDS + place) (c.place queue)
-            (subst (λ n. IsStoredBy (seat ∷ []) n (c.place queue)) (codes.entry place) s));
+            (let was = was_for (REDIRECTION_WORDS + place) (c.place queue)
+            (subst (λ n. IsStoredBy (seat ∷ []) n (c.place queue)) (codes.entry place) s) in
+            no_other was.0 (REDIRECTION_WORDS + place) (c.place queue) (omega (arith, less))
+            (omega arith) was.1);
         stands = λ a cpu less s.
             (let m = i.plan.within.apps_length.at_most in
-            no_other (STAND_WORDS + a) (c.place cpu) (omega (arith, less, m))
-            (omega arith) (was_for (STAND_WORDS + a) (c.place cpu)
-            (subst (λ n. IsStoredBy (seat ∷ []) n (c.place cpu)) (codes.stand a) s)));
+            let was = was_for (STAND_WORDS + a) (c.place cpu)
+            (subst (λ n. IsStoredBy (seat ∷ []) n (c.place cpu)) (codes.stand a) s) in
+            no_other was.0 (STAND_WORDS + a) (c.place cpu) (omega (arith, less, m))
+            (omega arith) was.1);
         filters = λ place f less below cpu s.
-            filter_meant place f less below (was_for (FILTER_WORDS + place) (filter_word f)
+            (let was = was_for (FILTER_WORDS + place) (filter_word f)
             (subst (λ (z : ℕ × ℕ). IsStoredBy (seat ∷ []) z.0 z.1)
-            (λ j. (codes.filter place j, codes.filter_value f j)) s));
+            (λ j. (codes.filter place j, codes.filter_value f j)) s) in
+            (filter_meant was.0 place f less below was.1).0);
         packets = λ id queue less s.
-            packet_meant id (c.place queue) (was_for (QUEUE_WORDS + id) (c.place queue)
-            (subst (λ n. IsStoredBy (seat ∷ []) n (c.place queue)) (codes.packet id) s));
+            (let was = was_for (hint_number (word.Queue id)) (c.place queue)
+            (subst (λ n. IsStoredBy (seat ∷ []) n (c.place queue)) (codes.packet id) s) in
+            packet_meant was.0 id (c.place queue) was.1);
+      }
+
+  -- ---- in their turn
+
+  mark_meant : (n x value : ℕ) → WasFor n (hint_number (word.Steered x)) value
+      → (e : StepBy Mark) × Contains marks e × (e.step.packet ≡ x) × (e.step.number ≡ n)
+  mark_meant n x value (inl (e, has, f, found)) =
+      let l = place_below e (hint_number (word.Steered x)) value f in
+      let m = i.plan.within.filters_within in
+      let is = f.word_is in
+      absurd (omega (arith, l, m, is))
+  mark_meant n x value (inr (inl (e, has, (number, at, is)))) =
+      (e, has, omega (arith, at), sym number)
+  mark_meant n x value (inr (inr (e, has, is, found))) =
+      let l = write_within e has in let m = is.0 in absurd (omega (arith, l, m))
+
+  write_marked : (n place cpu : ℕ) → place < MAX_SOCKET_SIZE → WasFor n place (place_word cpu)
+      → IsMarkedWrite i h c seats reply seat n (record { entry = place; cpu = cpu })
+  write_marked n place cpu less was =
+      let w = by_write n place (place_word cpu) (omega (arith, less)) was in
+      let noted_as = are_noted w.0 w.1 in
+      record {
+        app = w.0.by;
+        index = noted_as.index;
+        is = noted_as.is ∙ ap Some (same_write w.0.step.write place cpu w.2);
+        sent = noted_as.made.reply;
+        for = noted_as.made.for;
+        marked =
+            found_as seat (c.steered noted_as.made.reply.id)
+            (hint_number (word.Steered w.0.step.packet)) n
+            (codes.steered noted_as.made.reply.id
+            ∙ ap (λ id. hint_number (word.Steered id)) noted_as.made.packet) w.3;
+      }
+
+  entry_written : (n place value : ℕ) → place < MAX_SOCKET_SIZE → WasFor n place value
+      → IsEntryValue i h c value
+  entry_written n place value less was =
+      let w = by_write n place value (omega (arith, less)) was in
+      inl (
+        w.0.step.write.cpu,
+        w.2.1 ∙ sym (codes.place w.0.step.write.cpu),
+        (are_noted w.0 w.1).made.cpu_within,
+      )
+
+  in_turn : StoresInTurn i h c seats t reply marks seat
+  in_turn =
+      record {
+        filters = λ n place f less below cpu at.
+            filter_meant n place f less below (at_step n (FILTER_WORDS + place) (filter_word f)
+            (subst (λ (z : ℕ × ℕ). nth_step seat.steps n ≡ Some (Store z.0 z.1))
+            (λ j. (codes.filter place j, codes.filter_value f j)) at));
+        marks_are = λ x n value at.
+            mark_meant n x value (at_step n (hint_number (word.Steered x)) value
+            (subst (λ m. nth_step seat.steps n ≡ Some (Store m value)) (codes.steered x) at));
+        writes = λ n place cpu less at.
+            write_marked n place cpu less (at_step n place (place_word cpu)
+            (subst (λ (z : ℕ × ℕ). nth_step seat.steps n ≡ Some (Store z.0 z.1))
+            (λ j. (codes.socket place j, codes.place cpu j)) at));
+        entries = λ place value d less has writes.
+            (let at = has_number seat.steps d has in
+            entry_written at.0 place value less (stores at.0 place value d at.1
+            (subst (λ m. value_written m d ≡ Some value) (codes.socket place) writes)));
+      }
+
+  coupled : StoresAreCoupled i h c seats t reply marks seat
+  coupled =
+      record {
+        meant = meant;
+        in_turn = in_turn;
+        quiet = λ y n value at.
+            packet_meant n y value (at_step n (hint_number (word.Queue y)) value
+            (subst (λ m. nth_step seat.steps n ≡ Some (Store m value)) (codes.packet y) at));
       }
 
 pub workers_stores_are_meant : WorkersStoresAreMeant
-workers_stores_are_meant i h c t q noted seat codes mine are_noted stores =
-    meant i h c t q noted seat codes mine are_noted stores
+workers_stores_are_meant i h c seats t q reply marks noted seat codes mine are_noted stores =
+    coupled i h c seats t q reply marks noted seat codes mine are_noted stores
 
 -- ---- all seats
 

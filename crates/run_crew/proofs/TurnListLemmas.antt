@@ -1,17 +1,17 @@
 -- A turn among all turns of a producer, and what was noted of the turns before it.
-use Rattle.std.proofs.Common.{◌≡◌, inl, inr, ℕ, zero, suc, ◌≤◌, List, [], ◌∷◌, ◌++◌}
+use Rattle.std.proofs.Common.{◌≡◌, ◌⊎◌, inl, inr, ℕ, zero, suc, ◌≤◌, List, [], ◌∷◌, ◌++◌}
 use Rattle.std.proofs.Common.{Some, length, length-append, map, take, drop, sym, refl}
 use Rattle.std.proofs.Common.{ap, ◌∙◌, arith}
-use Rattle.std.specs.Prelude.{slice_get}
-use Rattle.std.specs.List.{fold}
+use Rattle.std.specs.Prelude.{◌-◌, slice_get}
+use Rattle.std.specs.List.{Contains, fold}
 use Rattle.std.proofs.Math.Seq.{take-append_seam}
 use Rattle.std.proofs.lemmas.List.{drop-append-le, length-map, map-append, take-append-le}
 use Rattle.std.proofs.lemmas.List.Sums.{fold-append}
 use Rattle.dev_flow_table.specs.Folds.{after_turn}
 use Rattle.dev_flow_table.specs.Tables.{Table}
 use Rattle.hop_rule.specs.Moments.{nth_step}
-use Rattle.hop_rule.proofs.Lists.{none-some}
-use Rattle.hop_rule.proofs.Moments.{nth-first}
+use Rattle.hop_rule.proofs.Lists.{none-some, some-is}
+use Rattle.hop_rule.proofs.Moments.{nth-first, nth-inside, nth-last, nth-member, nth-old}
 use Rattle.hop_delivery.specs.Orders.Turns.{Turn}
 use Rattle.run_workers.specs.Hands.Pollers.{as_told}
 use Rattle.run_words.specs.Lists.{oldest_first}
@@ -34,6 +34,29 @@ since_more table since us u le =
     ∙ fold-append after_turn table (map as_told (drop since (oldest_first us)))
     (as_told u ∷ []))
 
+-- a member of a list is its first one or one of the others
+pub contains_split : {A : Type 0} (y : A) (xs : List A) (x : A) → Contains (y ∷ xs) x
+    → (y ≡ x) ⊎ Contains xs x
+contains_split y xs x (zero, less, is) = inl is
+contains_split y xs x (suc k, less, is) = inr (k, omega (arith, less), is)
+
+-- a step of a list has a number
+pub has_number : {A : Type 0} (xs : List A) (d : A) → Contains xs d
+    → (k : ℕ) × (nth_step xs k ≡ Some d)
+has_number xs d (j, less, is) = (
+  length xs - suc j,
+  nth-member xs j d less ∙ ap (λ z. Some z) is,
+)
+
+-- and what has a number is a step of it
+pub nth_contains : {A : Type 0} (xs : List A) (k : ℕ) (d : A) → nth_step xs k ≡ Some d
+    → Contains xs d
+nth_contains [] k d at = none-some d at
+nth_contains (x ∷ xs) k d at = elim (nth-first x xs k d at) [
+  | inl old ↦ (let r = nth_contains xs k d old in (suc r.0, omega (arith, r.1), r.2))
+  | inr last ↦ (0, omega arith, last.0)
+]
+
 module _ {A : Type 0} where
   front-get : (xs ys : List A) (k : ℕ) (x : A) → slice_get xs k ≡ Some x
       → slice_get (xs ++ ys) k ≡ Some x
@@ -55,9 +78,54 @@ module _ {A : Type 0} where
       front-get (oldest_first (newer ++ x ∷ older)) (y ∷ []) (length older) x
       (place newer x older)
 
-module _ {S : Type 0} (f : S → Turn) where
+  last-cases : (xs : List A) (y : A) (k : ℕ) (x : A) → slice_get (xs ++ y ∷ []) k ≡ Some x
+      → (slice_get xs k ≡ Some x) ⊎ ((y ≡ x) × (k ≡ length xs))
+  last-cases [] y zero x is = inr (some-is y x is, refl)
+  last-cases [] y (suc k) x is = none-some x is
+  last-cases (z ∷ xs) y zero x is = inl is
+  last-cases (z ∷ xs) y (suc k) x is = elim (last-cases xs y k x is) [
+    | inl front ↦ inl front
+    | inr last ↦ inr (last.0, ap (λ n. suc n) last.1)
+  ]
+
+  -- the item with k before it is the k-th from the oldest
+  pub nth-oldest : (xs : List A) (k : ℕ) (x : A) → nth_step xs k ≡ Some x
+      → slice_get (oldest_first xs) k ≡ Some x
+  nth-oldest [] k x is = none-some x is
+  nth-oldest (y ∷ ys) k x is = elim (nth-first y ys k x is) [
+    | inl old ↦ front-get (oldest_first ys) (y ∷ []) k x (nth-oldest ys k x old)
+    | inr last ↦
+        ap (λ n. slice_get (oldest_first ys ++ y ∷ []) n) (last.1 ∙ sym (length_turned ys))
+        ∙ (last-get (oldest_first ys) y ∙ ap Some last.0)
+  ]
+
+  pub oldest-nth : (xs : List A) (k : ℕ) (x : A) → slice_get (oldest_first xs) k ≡ Some x
+      → nth_step xs k ≡ Some x
+  oldest-nth [] k x is = none-some x is
+  oldest-nth (y ∷ ys) k x is = elim (last-cases (oldest_first ys) y k x is) [
+    | inl old ↦
+        let at = oldest-nth ys k x old in
+        nth-old (y ∷ []) ys k (nth-inside ys k x at) ∙ at
+    | inr last ↦
+        ap (nth_step (y ∷ ys)) (last.1 ∙ length_turned ys) ∙ (nth-last y ys ∙ ap Some last.0)
+  ]
+
+  -- the k-th item of a list whose items are changed
+  pub nth-map : {B : Type 0} (f : A → B) (xs : List A) (k : ℕ) (x : A) → nth_step xs k ≡ Some x
+      → nth_step (map f xs) k ≡ Some (f x)
+  nth-map f [] k x is = none-some x is
+  nth-map f (y ∷ ys) k x is = elim (nth-first y ys k x is) [
+    | inl old ↦
+        let at = nth-map f ys k x old in
+        nth-old (f y ∷ []) (map f ys) k (nth-inside (map f ys) k (f x) at) ∙ at
+    | inr last ↦
+        ap (nth_step (f y ∷ map f ys)) (last.1 ∙ sym (length-map ys f))
+        ∙ (nth-last (f y) (map f ys) ∙ ap (λ z. Some (f z)) last.0)
+  ]
+
+module _ {S T : Type 0} (f : S → T) where
   -- the k-th turn, in what was noted of the turns: what is before it, it, and what is after it
-  pub record TurnAt (noted : List S) (k : ℕ) (u : Turn) : Type 0 where
+  pub record TurnAt (noted : List S) (k : ℕ) (u : T) : Type 0 where
     pub newer : List S
     pub s : S
     pub older : List S
@@ -65,7 +133,7 @@ module _ {S : Type 0} (f : S → Turn) where
     pub turn_is : f s ≡ u
     pub before : length older ≡ k
 
-  pub turn_at : (noted : List S) (k : ℕ) (u : Turn) → nth_step (map f noted) k ≡ Some u
+  pub turn_at : (noted : List S) (k : ℕ) (u : T) → nth_step (map f noted) k ≡ Some u
       → TurnAt noted k u
   turn_at [] k u at = none-some u at
   turn_at (s ∷ ss) k u at =
@@ -94,13 +162,13 @@ module _ {S : Type 0} (f : S → Turn) where
       → take (length older) (oldest_first (map f (newer ++ s ∷ older)))
       ≡ oldest_first (map f older)
   front [] s older =
-      let us : List Turn = map f older in
+      let us : List T = map f older in
       let n : length (oldest_first us) ≡ length older =
       length_turned us ∙ length-map older f in
       ap (λ k. take k (oldest_first us ++ f s ∷ [])) (sym n)
       ∙ take-append_seam (oldest_first us) (f s ∷ [])
   front (x ∷ newer) s older =
-      let us : List Turn = map f (newer ++ s ∷ older) in
+      let us : List T = map f (newer ++ s ∷ older) in
       let n : length (oldest_first us) ≡ length (newer ++ s ∷ older) =
       length_turned us ∙ length-map (newer ++ s ∷ older) f in
       let m = length-append newer (s ∷ older) in

@@ -50,7 +50,7 @@ filter-within word queues cpus f is =
     ]
 
 -- a place of a word is one of so many
-place-within : (word count place : ℕ) → place_in word count ≡ Some place → place < count
+pub place-within : (word count place : ℕ) → place_in word count ≡ Some place → place < count
 place-within word count place is =
     elim (cases_Bool ((word == 0) || nat_lt count word)) [
       | inl out ↦ let none : None ≡ Some place = rw out at is in none-some place none

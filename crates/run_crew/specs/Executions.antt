@@ -3,32 +3,34 @@ use Rattle.std.specs.Prelude.{◌≡◌, ℕ, ◌%◌, ◌≤◌, List, [], Some
 use Rattle.linearization.specs.Orders.{StepBy}
 use Rattle.steer_base.specs.declared.choice.Chosen.{Chosen}
 use Rattle.history.specs.Lists.{list_at}
-use Rattle.history.specs.declared.sock_write.SockWrite.{SockWrite}
 use Rattle.hop_delivery.specs.Orders.Runs.{Execution}
 use Rattle.hop_delivery.specs.Orders.Turns.{Turn}
+use Rattle.run_workers.specs.Records.Words.{Mark, Note}
 use Rattle.run_workers.specs.Stages.{StageView}
 use Rattle.run_workers.specs.Workers.{IsWorking}
 use Rattle.run_crew.specs.declared.seated.Seated.{Seated}
 
--- What a worker's record says of its seats: the turns at each board, and the writes that were
--- noted.
+-- What a worker's record says of its seats: the turns at each board, the marks of packets, and the
+-- writes that were noted.
 pub record SeatTurns : Type 0 where
   pub steered : List (StepBy Turn)
   pub replied : List (StepBy Turn)
-  pub noted : List SockWrite
+  pub marks : List (StepBy Mark)
+  pub noted : List (StepBy Note)
 
--- A worker keeps its record with these turns and writes.
+-- A worker keeps its record with these turns, marks and writes.
 pub record HasTurns (t : StageView) (x : Seated) (s : SeatTurns) : Type 0 where
   pub is : IsWorking t x.worker x.seats
   pub steered : is.turns ≡ s.steered
   pub replied : is.replies ≡ s.replied
+  pub marks : is.marks ≡ s.marks
   pub noted : is.noted ≡ s.noted
 
 -- These are the turns of each seat: a worker's own, and none of any other.
 pub record AreTurnsOf (t : StageView) (crew : List Seated) (turns : ℕ → SeatTurns) : Type 0 where
   pub workers : (w : ℕ) (x : Seated) → slice_get crew w ≡ Some x → HasTurns t x (turns w)
   pub others : (w : ℕ) → length crew ≤ w
-      → turns w ≡ record { steered = []; replied = []; noted = [] }
+      → turns w ≡ record { steered = []; replied = []; marks = []; noted = [] }
 
 -- The execution of the receive board, with these arrivals: each queue is steered by the seat of its
 -- worker.

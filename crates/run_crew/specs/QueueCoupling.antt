@@ -2,6 +2,7 @@
 use Rattle.std.specs.Prelude.{◌≡◌, ℕ, ◌+◌, ◌*◌, ◌<◌, ◌≤◌, ◌==◌, List, Option, Some, None, length}
 use Rattle.std.specs.Prelude.{if◌then◌else◌}
 use Rattle.std.specs.List.{Contains}
+use Rattle.linearization.specs.Orders.{StepBy, steps_of}
 use Rattle.linearization.specs.Seats.{SeatView}
 use Rattle.hint_words.specs.declared.step.HintStep.{HintStep}
 use Rattle.hop_rule.specs.Moments.{nth_step}
@@ -21,6 +22,7 @@ use Rattle.run_coupling.specs.Coupling.Inputs.{FlowsHaveOneHash, receive_queues}
 use Rattle.run_coupling.specs.Coupling.OwnTables.{IsByTable}
 use Rattle.run_coupling.specs.Coupling.Queues.{FitReceiveWords}
 use Rattle.run_workers.specs.Records.Polling.{IsPolling, PolledTurn}
+use Rattle.run_workers.specs.Records.Words.{Mark}
 
 -- The values of the setting words that a poller of queue q has read, by word, of so many queues.
 abbrev pub words_read : (queues queue : ℕ) → Reading → (word : ℕ) → ℕ
@@ -55,14 +57,27 @@ pub record IsQueueCoupled (i : Input) (about : BoardSizes) (own : List BoardStep
       → IsByTable about.start t (receive_steering (receive_queues i)) seen p k u
   pub wants : p < length i.plan.queues → HasWants i c seats t p seen
 
--- A poller's record over the turns of its seat gives the coupling invariants of its queue.
+-- The wants of queue p were looked up at this seat, and of its marks those of the queue are those
+-- of the queue's turns, in their order.
+pub record IsMarkedBy (i : Input) (c : HintCodes) (seats : List (SeatView HintStep))
+    (t : Execution) (p : ℕ) (seen : ℕ → ℕ → ℕ) (wants : HasWants i c seats t p seen)
+    (seat : SeatView HintStep) (marks : List (StepBy Mark)) : Type 0 where
+  pub seat_is : wants.seat ≡ seat
+  pub each : (k : ℕ) (m : Mark) → nth_step (steps_of p marks) k ≡ Some m
+      → (u : Turn) × (nth_step (turns_of t p) k ≡ Some u) × (u.chosen.id ≡ m.packet)
+      × (wants.mark k ≡ m.number)
+
+-- A poller's record over the turns and marks of its seat gives the coupling invariants of its
+-- queue.
 abbrev pub PollersAreCoupled : Type 0
 PollersAreCoupled =
     (i : Input) (about : BoardSizes) (own : List BoardStep) (c : HintCodes)
     (seats : List (SeatView HintStep)) (seat : SeatView HintStep) (t : Execution) (first : ℕ)
-    (p : Poller) (x : IsPolling (setup_in i) first about.start p (t.turns (t.seat p.queue))
-    seat.steps)
+    (p : Poller) (marks : List (StepBy Mark))
+    (x : IsPolling (setup_in i) first about.start p (t.turns (t.seat p.queue)) marks seat.steps)
     → FlowsHaveOneHash i → p.choices.room ≤ length i.packets
     → p.queue < length (setup_in i).homes → AreShared c → Contains seats seat
-    → IsQueueCoupled i about own c seats t p.queue
-    (words_seen (length (setup_in i).homes) p.queue x.polled)
+    → (q : IsQueueCoupled i about own c seats t p.queue
+    (words_seen (length (setup_in i).homes) p.queue x.polled))
+    × ((less : p.queue < length i.plan.queues) → IsMarkedBy i c seats t p.queue
+    (words_seen (length (setup_in i).homes) p.queue x.polled) (q.wants less) seat marks)

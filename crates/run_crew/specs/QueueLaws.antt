@@ -1,5 +1,6 @@
 -- What the workers' records say of the receive queues at the closing of the receive board.
-use Rattle.std.specs.Prelude.{◌≡◌, ℕ, ◌≤◌, ◌<◌, List, [], length, map, slice_index}
+use Rattle.std.specs.Prelude.{◌≡◌, ℕ, ◌%◌, ◌≤◌, ◌<◌, List, [], Some, length, map, slice_get}
+use Rattle.std.specs.Prelude.{slice_index}
 use Rattle.std.specs.List.{Contains}
 use Rattle.linearization.specs.Seats.{SeatView}
 use Rattle.steer_base.specs.declared.choice.Chosen.{Chosen}
@@ -20,6 +21,7 @@ use Rattle.run_workers.specs.Stages.{StageView}
 use Rattle.run_crew.specs.Crews.{AreReceiveLists, AreWorking, IsPlayed, pollers_of}
 use Rattle.run_crew.specs.declared.seated.Seated.{Seated}
 use Rattle.run_crew.specs.Executions.{AreTurnsOf, SeatTurns, queue_execution}
+use Rattle.run_crew.specs.QueueCoupling.{IsMarkedBy}
 
 -- Each crew has turns.
 abbrev pub CrewsHaveTurns : Type 0
@@ -57,12 +59,18 @@ QueuesKeepTurns =
     → ((q : ℕ) → map (λ (c : Chosen). c.id) (list_at choices q) ≡ arrivals q)
     → KeepsTurns own (queue_execution crew turns choices arrivals)
 
--- What the turns of the queues have seen, and the coupling invariants of the queues with it.
-pub record QueuesAreCoupled (i : Input) (h : History) (t : StageView) (own : ℕ → List BoardStep)
-    (c : HintCodes) (seats : List (SeatView HintStep)) (execution : Execution) : Type 0 where
+-- What the turns of the queues have seen, and the coupling invariants of the queues with it. The
+-- wants of a queue were looked up at the seat of its worker, whose marks are those of the turns.
+pub record QueuesAreCoupled (i : Input) (h : History) (t : StageView) (crew : List Seated)
+    (turns : ℕ → SeatTurns) (own : ℕ → List BoardStep) (c : HintCodes)
+    (seats : List (SeatView HintStep)) (execution : Execution) : Type 0 where
   pub seen : ℕ → ℕ → ℕ → ℕ
   pub keeps : KeepsQueues i h t.rx.sizes own execution seen
   pub wants : WantsAreLoaded i h c seats execution seen
+  pub marks : (q : ℕ) (less : q < length i.plan.queues) (x : Seated)
+      → slice_get crew (q % length crew) ≡ Some x
+      → IsMarkedBy i c seats execution q (seen q) (wants q less) x.seats.hint
+      (turns (q % length crew)).marks
 
 -- If each arrival has its choice, the queues keep their coupling invariants with a history that has
 -- their choices.
@@ -75,5 +83,5 @@ QueuesKeepCoupling =
     → length h.taken ≡ length i.plan.queues
     → ((q : ℕ) → slice_index h.taken q ≡ length (list_at h.choices q))
     → ((q : ℕ) → map (λ (c : Chosen). c.id) (list_at h.choices q) ≡ arrivals_at h.arrivals q)
-    → QueuesAreCoupled i h t own c seats
+    → QueuesAreCoupled i h t crew turns own c seats
     (queue_execution crew turns h.choices (arrivals_at h.arrivals))

@@ -1,6 +1,8 @@
 -- What the workers' records say of the applications at the closing of the boards.
-use Rattle.std.specs.Prelude.{◌≡◌, ℕ, ◌≤◌, ◌<◌, List, [], Some, None, All, length, map, slice_get}
+use Rattle.std.specs.Prelude.{◌≡◌, ℕ, ◌%◌, ◌≤◌, ◌<◌, List, [], Some, None, All, length, map}
+use Rattle.std.specs.Prelude.{slice_get}
 use Rattle.std.specs.List.{Contains}
+use Rattle.linearization.specs.Orders.{steps_of}
 use Rattle.linearization.specs.Seats.{SeatView}
 use Rattle.hint_words.specs.declared.step.HintStep.{HintStep}
 use Rattle.history.specs.Lists.{list_at}
@@ -14,10 +16,12 @@ use Rattle.run_coupling.specs.Laws.SharedCodes.{AreShared}
 use Rattle.run_coupling.specs.Coupling.Applications.{KeepsApplications}
 use Rattle.run_coupling.specs.Coupling.Ends.{AllArrived}
 use Rattle.run_coupling.specs.Coupling.Hints.{AreRecorded, CameBy, HintCodes, Stands}
+use Rattle.run_words.specs.Lists.{oldest_first}
 use Rattle.run_workers.specs.Actors.{Each}
 use Rattle.run_workers.specs.Stages.{StageView}
 use Rattle.run_crew.specs.Crews.{AreReceiveLists, AreTransmitLists, AreWorking, IsPlayed}
 use Rattle.run_crew.specs.Crews.{servers_of}
+use Rattle.run_crew.specs.ApplicationCoupling.{AreMadeFor}
 use Rattle.run_crew.specs.declared.seated.Seated.{Seated}
 use Rattle.run_crew.specs.Executions.{AreTurnsOf, SeatTurns, reply_execution}
 
@@ -51,16 +55,20 @@ pub record TransmitEnds (i : Input) (h : History) (t : StageView) (crew : List S
       → HasJournals i h crew a p
 
 -- What the turns of the applications have seen, and the coupling invariants of the applications
--- with it.
-pub record ApplicationsCoupled (i : Input) (h : History) (t : StageView)
-    (rx_own own : ℕ → List BoardStep) (c : HintCodes) (seats : List (SeatView HintStep))
-    (execution : Execution) : Type 0 where
+-- with it. `reply` is the index of the reply for whose packet an application made a write.
+pub record ApplicationsCoupled (i : Input) (h : History) (t : StageView) (crew : List Seated)
+    (turns : ℕ → SeatTurns) (rx_own own : ℕ → List BoardStep) (c : HintCodes)
+    (seats : List (SeatView HintStep)) (execution : Execution) : Type 0 where
   pub seen : ℕ → ℕ → ℕ → ℕ
   pub keeps : KeepsApplications i h rx_own t.tx.sizes own execution seen
   pub queues : (a : ℕ) → All (λ (s : Sent). CameBy i h c seats s.id s.rxq) (list_at h.sent a)
   pub stands : (a : ℕ) → All (λ (s : Sent). Stands i h c seats a s.cpu) (list_at h.sent a)
   pub writes : (a : ℕ) → AreRecorded i h c seats rx_own a
       (map (λ (s : Sent). s.id) (list_at h.sent a)) (list_at h.writes a)
+  pub reply : (app write : ℕ) → ℕ
+  pub made : (a : ℕ) → a < length i.plan.apps
+      → AreMadeFor i (list_at h.sent a) (list_at h.writes a)
+      (oldest_first (steps_of a (turns (a % length crew)).noted)) (reply a)
 
 -- The applications keep their coupling invariants with a history that has their journals.
 abbrev pub ApplicationsKeepCoupling : Type 0
@@ -69,5 +77,5 @@ ApplicationsKeepCoupling =
     (rx_own own : ℕ → List BoardStep) (c : HintCodes) (seats : List (SeatView HintStep))
     → TransmitEnds i h t crew turns rx_own own → AreShared c
     → Each (λ w x. Contains seats x.seats.hint) crew
-    → ApplicationsCoupled i h t rx_own own c seats
+    → ApplicationsCoupled i h t crew turns rx_own own c seats
     (reply_execution crew turns h.tx_choices (λ a. map (λ (s : Sent). s.id) (list_at h.sent a)))

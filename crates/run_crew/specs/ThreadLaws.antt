@@ -16,6 +16,7 @@ use Rattle.steer_model.specs.Good.Inputs.{Input, setup_in}
 use Rattle.steer_model.specs.State.Setup.{Setup}
 use Rattle.run_workers.specs.declared.poller.Poller.{Poller}
 use Rattle.run_workers.specs.Records.Polling.{IsPolling}
+use Rattle.run_workers.specs.Records.Words.{Mark}
 use Rattle.run_crew.specs.Routes.{Ends}
 use Rattle.run_words.specs.HintViews.{HintView}
 use Rattle.run_controller.specs.Journals.{Attempted}
@@ -48,8 +49,8 @@ ArrivalsAreWithin =
 abbrev pub FrontsAreChosen : Type 0
 FrontsAreChosen =
     (given : Setup) (first start : ℕ) (p : Poller) (turns : List (StepBy Turn))
-    (hints : List HintStep) (arrivals : List Arrival) (left : List ℕ)
-    → IsPolling given first start p turns hints → p.hand ≡ None
+    (marks : List (StepBy Mark)) (hints : List HintStep) (arrivals : List Arrival) (left : List ℕ)
+    → IsPolling given first start p turns marks hints → p.hand ≡ None
     → arrivals_at arrivals p.queue ≡ received p.ring ++ left
     → All (λ x. x < p.choices.room) (arrivals_at arrivals p.queue)
     → IsPrefix (map (λ (c : Chosen). c.id) p.choices.items) (arrivals_at arrivals p.queue)

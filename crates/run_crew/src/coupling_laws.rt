@@ -7,28 +7,29 @@ ghost use Rattle.run_crew.specs.StoreCoupling.{StoresAreMeantByEach, WorkersStor
 
 /// Lemma: the record of a poller over the turns of its seat gives the coupling invariants of its
 /// queue at the closing of the board: hashes, the settings that its turns know, choices by its own
-/// table, and what was wanted.
+/// table, what was wanted, and the marks of its packets.
 pub fn pollers_are_coupled()
     ensures { PollersAreCoupled }
 {}
 
 /// Lemma: the record of an application with an empty hand gives its coupling invariants at the
 /// closing of the boards: where it found each packet, the maps that its turns know and the queues
-/// that they pick, choices by its own table, and the queues, processors and writes by what was
-/// loaded and read.
+/// that they pick, choices by its own table, the queues, processors and writes by what was loaded
+/// and read, and the reply for whose packet each write was made.
 pub fn applications_are_coupled()
     ensures { ApplicationsAreCoupled }
 {}
 
-/// Lemma: the stores of a worker's seat, which were for turns of the seat and for writes of
-/// applications that keep their records, give the coupling invariant of stores for this seat; the
+/// Lemma: the stores of a worker's seat, which were for turns, marks and writes of the seat, give
+/// the coupling invariant of stores for this seat, and what the seat had found before each; the
 /// coupling invariants for each seat give that for all.
 pub fn stores_are_meant()
     ensures worker { WorkersStoresAreMeant }
     ensures each { StoresAreMeantByEach }
 {}
 
-/// Lemma: what the wire did gives its coupling invariants at the closing.
+/// Lemma: what the wire did gives its coupling invariants at the closing: it announced the packets
+/// in turn.
 pub fn the_wire_keeps_its_coupling()
     ensures { WireKeepsCoupling }
 {}

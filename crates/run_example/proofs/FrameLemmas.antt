@@ -1,9 +1,8 @@
 -- A run from two lawful orders and the coupling invariants with their parts as own lists.
-use Rattle.std.proofs.Common.{◌≡◌, ℕ, ◌+◌, ◌^◌, ◌==◌, ◌&&◌, Bool, true, false, List, [], sym}
+use Rattle.std.proofs.Common.{◌≡◌, ℕ, ◌+◌, ◌^◌, ◌&&◌, Bool, true, false, List, sym}
 use Rattle.std.proofs.Common.{arith, refl, subst}
 use Rattle.std.specs.Prelude.{nat_lt}
 use Rattle.std.proofs.lemmas.Bool.{ltb-true}
-use Rattle.std.proofs.lemmas.List.Elements.{All-nil}
 use Rattle.atomic_table.specs.Seated.{TableId}
 use Rattle.linearization.specs.Orders.{StepBy}
 use Rattle.linearization.specs.Seats.{SeatView}
@@ -23,6 +22,7 @@ use Rattle.hop_delivery.specs.Orders.Runs.{Execution}
 use Rattle.steer_model.specs.Good.Inputs.{Input}
 use Rattle.run_coupling.specs.Coupling.Ends.{TotalsReplied}
 use Rattle.run_coupling.specs.Coupling.Hints.{LoadsAreUsed, StoresAreMeant}
+use Rattle.run_coupling.specs.Coupling.Marks.{KeepsMarks}
 use Rattle.run_coupling.specs.Coupling.Runs.{IsOfInput, IsRun, KeepsCommands, ReceiveCoupling}
 use Rattle.run_coupling.specs.Coupling.Runs.{TransmitCoupling}
 use Rattle.run_coupling.specs.Coupling.Tries.{Try}
@@ -73,6 +73,14 @@ pub record KeepsHints (i : Input) (h : History)
   pub ended : HaveEnded seats
   pub meant : StoresAreMeant i h shared seats t
   pub used : LoadsAreUsed i h shared seats rx_own t seen
+  pub marks : KeepsMarks i h shared seats t seen used.wants
+
+-- how loads were used, and in which order with the marks
+abbrev UsesInOrder : Input → History → List (SeatView HintStep) → (ℕ → List BoardStep) → Execution
+    → (ℕ → ℕ → ℕ → ℕ) → Type 0
+UsesInOrder i h seats rx_own t seen =
+    (used : LoadsAreUsed i h shared seats rx_own t seen)
+    × KeepsMarks i h shared seats t seen used.wants
 
 module _ (i : Input) (h : History) (rx : BoardSizes)
     (rx_order : List (StepBy BoardStep)) (rx_ends : MayEnd rx rx_order) (tx : BoardSizes)
@@ -96,6 +104,9 @@ module _ (i : Input) (h : History) (rx : BoardSizes)
         replied hints table =
         let rx_ended = each_order_closes table rx rx_order rx_ends.fit rx_ends.lawful in
         let tx_ended = each_order_closes table tx tx_order tx_ends.fit tx_ends.lawful in
+        let uses : UsesInOrder i h seats (own_in (seats_in table rx rx_order)) queues queues_seen =
+        subst (λ own. UsesInOrder i h seats own queues queues_seen) (sym rx_ended.1)
+        (hints.used, hints.marks) in
         record {
           input = input;
           tries = tries;
@@ -127,6 +138,6 @@ module _ (i : Input) (h : History) (rx : BoardSizes)
           hint_seats = seats;
           hints_ended = hints.ended;
           meant = hints.meant;
-          used = subst (λ own. LoadsAreUsed i h shared seats own queues queues_seen)
-              (sym rx_ended.1) hints.used;
+          used = uses.0;
+          marks = uses.1;
         }

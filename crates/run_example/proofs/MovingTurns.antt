@@ -37,13 +37,13 @@ use Rattle.run_example.specs.Moves.{of_first, of_two, turn}
 
 -- ---- the receive queues
 
-abbrev turn_first : Turn
+abbrev pub turn_first : Turn
 turn_first = (turn moving_rx_order (chosen_at table_choices 0) 0 0 6 (Some 2) (At 1)).step
 
 abbrev pub turn_again : Turn
 turn_again = (turn moving_rx_order (chosen_at table_choices 1) (2 ^ 32) 15 21 (Some 2) (At 1)).step
 
-abbrev turn_other : Turn
+abbrev pub turn_other : Turn
 turn_other = (turn moving_rx_order other_chosen (2 ^ 32) 28 34 (Some 2) (At 2)).step
 
 abbrev rx_turns : List (StepBy Turn)

@@ -34,6 +34,7 @@ use Rattle.plan_reader.specs.declared.plan.Steps.TheVariants as steps
 use Rattle.run_words.specs.Numbers.{hint_number}
 use Rattle.run_words.specs.Values.{filter_word, place_word}
 use Rattle.run_words.specs.declared.hint_word.HintWord.TheVariants as word
+use Rattle.run_words.specs.declared.values.TheConstants.{STEERED}
 use Rattle.steer_model.specs.Good.Inputs.{Input}
 use Rattle.run_example.specs.Moves.{choice_for, drains, reads, resizes}
 use Rattle.run_example.specs.Plans.{plan_with}
@@ -190,6 +191,10 @@ its_stand = hint_number (word.Stand 0)
 abbrev pub its_queue : ℕ → ℕ
 its_queue id = hint_number (word.Queue id)
 
+-- The word of whether a packet is steered.
+abbrev pub its_mark : ℕ → ℕ
+its_mark id = hint_number (word.Steered id)
+
 -- The wire and the worker load or store.
 abbrev pub by_wire : HintStep → StepBy HintStep
 by_wire d = step_by 0 d
@@ -197,26 +202,50 @@ by_wire d = step_by 0 d
 abbrev pub by_worker : HintStep → StepBy HintStep
 by_worker d = step_by 1 d
 
--- The order of all steps at the hint words, the newest first. The wire finds no filter for packets
--- 0 and 1, and no entry but the plan's. The worker finds nothing wanted for packet 0, takes it,
--- writes processor 1, where the application stands by the plan, and replies. For packet 1 it loads
--- what it wrote, and stores the filter once that packet is accepted, which the wire loads for
--- packet 2. The wire announces this packet alone.
-abbrev pub moving_hint_order : List (StepBy HintStep)
-moving_hint_order =
+-- Each packet is announced by the wire, found announced and marked as steered by the worker, found
+-- marked by its application, written for and replied to. The application stands on processor 1 by
+-- the plan. The steps are in the order of the packets, the newest first.
+
+-- For packet 2 the wire loads the filter. It has no class, so nothing is wanted.
+abbrev pub third_order : List (StepBy HintStep)
+third_order =
     by_worker (Load its_stand 0) ∷ by_worker (Load (its_queue 2) (place_word 1))
     ∷ by_worker (Store flow_entry (place_word 1)) ∷ by_worker (Load its_stand 0)
+    ∷ by_worker (Load (its_mark 2) STEERED)
+    ∷ by_worker (Store (its_mark 2) STEERED)
+    ∷ by_worker (Load (its_queue 2) (place_word 1))
     ∷ by_wire (Store (its_queue 2) (place_word 1))
-    ∷ by_wire (Load flow_filter (filter_word to_other_queue))
-    ∷ by_worker (Load its_stand 0) ∷ by_worker (Load (its_queue 1) 0)
+    ∷ by_wire (Load flow_filter (filter_word to_other_queue)) ∷ []
+
+-- For packet 1 the wire finds no filter, and no entry but the plan's. The worker wants what it
+-- wrote, and stores the filter once the packet is accepted.
+abbrev pub second_order : List (StepBy HintStep)
+second_order =
+    by_worker (Load its_stand 0) ∷ by_worker (Load (its_queue 1) (place_word 0))
     ∷ by_worker (Store flow_entry (place_word 1)) ∷ by_worker (Load its_stand 0)
+    ∷ by_worker (Load (its_mark 1) STEERED)
     ∷ by_worker (Store flow_filter (filter_word to_other_queue))
+    ∷ by_worker (Store (its_mark 1) STEERED)
     ∷ by_worker (Load flow_entry (place_word 1))
-    ∷ by_wire (Load flow_queue 0) ∷ by_wire (Load flow_filter 0)
-    ∷ by_worker (Load its_stand 0) ∷ by_worker (Load (its_queue 0) 0)
-    ∷ by_worker (Store flow_entry (place_word 1)) ∷ by_worker (Load its_stand 0)
-    ∷ by_worker (Load flow_entry 0)
+    ∷ by_worker (Load (its_queue 1) (place_word 0))
+    ∷ by_wire (Store (its_queue 1) (place_word 0))
     ∷ by_wire (Load flow_queue 0) ∷ by_wire (Load flow_filter 0) ∷ []
+
+-- For packet 0 the wire finds no filter either, and the worker finds nothing wanted.
+abbrev pub first_order : List (StepBy HintStep)
+first_order =
+    by_worker (Load its_stand 0) ∷ by_worker (Load (its_queue 0) (place_word 0))
+    ∷ by_worker (Store flow_entry (place_word 1)) ∷ by_worker (Load its_stand 0)
+    ∷ by_worker (Load (its_mark 0) STEERED)
+    ∷ by_worker (Store (its_mark 0) STEERED)
+    ∷ by_worker (Load flow_entry 0)
+    ∷ by_worker (Load (its_queue 0) (place_word 0))
+    ∷ by_wire (Store (its_queue 0) (place_word 0))
+    ∷ by_wire (Load flow_queue 0) ∷ by_wire (Load flow_filter 0) ∷ []
+
+-- The order of all steps at the hint words.
+abbrev pub moving_hint_order : List (StepBy HintStep)
+moving_hint_order = third_order ++ (second_order ++ first_order)
 
 abbrev pub wire_steps : List HintStep
 wire_steps = steps_of 0 moving_hint_order

@@ -1,4 +1,7 @@
 mod RoomLemmas
 pub mod BoardOrderLemmas
 mod HopLemmas
+mod WordLemmas
+mod FilterLemmas
+mod WantLemmas
 mod RunLemmas

@@ -1,4 +1,4 @@
--- The two hops of a run, each by the order of its board.
+-- The two hops of a run, each by the order of its board, and the words beside them.
 use Rattle.std.proofs.Common.{◌≡◌, ℕ, zero, suc, ◌-◌, List, [], ◌∷◌, Some, None, length, map, sym}
 use Rattle.std.proofs.Common.{ap, ◌∙◌, subst, arith}
 use Rattle.std.proofs.lemmas.List.{get_or_past}
@@ -35,7 +35,9 @@ use Rattle.headline.specs.HopOrders.{transmit_lists}
 use Rattle.run_promise.specs.BoardOrders.{BoardOrder}
 use Rattle.run_promise.specs.Laws.{BoardsAreOrdered, RunsAreByRun}
 use Rattle.run_promise.proofs.BoardOrderLemmas.{board-order}
+use Rattle.run_promise.proofs.FilterLemmas.{filters-are-older}
 use Rattle.run_promise.proofs.HopLemmas.{came-at, given-at, given-rise, hop-order, put-is, was-put}
+use Rattle.run_promise.proofs.WantLemmas.{wants-are-older, wants-stay-set}
 
 pub boards-are-ordered : BoardsAreOrdered
 boards-are-ordered =
@@ -123,7 +125,7 @@ module _ (i : Input) (h : History) (run : IsRun i h) where
       run.received.board.inboxes (runs.inboxes-stand i h run) run.tx tx_own run.tx_lists facts
       run.tries run.applications run.maps_seen (runs.within i h run) run.sent).by_rule
 
-  settings : SettingsGoForward i h receive-order
+  abbrev settings : SettingsGoForward i h receive-order
   settings =
       let keeps = run.received.queues.turns in
       let kept = run.received.tries_are in
@@ -184,6 +186,9 @@ module _ (i : Input) (h : History) (run : IsRun i h) where
         settings = settings;
         transmit = transmit-order;
         maps = maps;
+        filters = filters-are-older i h run;
+        wants = wants-are-older i h run;
+        stay = wants-stay-set i h run;
       }
 
 pub runs-are-by-run : RunsAreByRun

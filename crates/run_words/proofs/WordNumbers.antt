@@ -1,6 +1,6 @@
 -- No two words have the same number: the number tells which word it is.
-use Rattle.std.proofs.Common.{◌≡◌, ℕ, ◌+◌, ◌-◌, ◌<◌, ◌==◌, nat_lt, true, false, refl, sym, ap}
-use Rattle.std.proofs.Common.{◌∙◌, arith, if◌then◌else◌}
+use Rattle.std.proofs.Common.{◌≡◌, ℕ, ◌+◌, ◌-◌, ◌*◌, ◌/◌, ◌%◌, ◌<◌, ◌==◌, nat_lt, true, false}
+use Rattle.std.proofs.Common.{refl, sym, ap, ◌∙◌, arith, if◌then◌else◌}
 use Rattle.std.proofs.lemmas.Bool.Decides.{nat_tests}
 use Rattle.run_words.specs.Codes.{HintWordsApart, SettingsApart}
 use Rattle.run_words.specs.Numbers.{IsHintWord, IsReceiveSetting, IsTransmitSetting}
@@ -19,7 +19,8 @@ word_at n =
     if nat_lt n 65664 then word.Redirection (n - 65536) else
     if nat_lt n 65696 then word.Stand (n - 65664) else
     if nat_lt n 69792 then word.Filter (n - 65696) else
-    if n == 69792 then word.Done else word.Queue (n - 69793)
+    if n == 69792 then word.Done else
+    if (n - 69793) % 2 == 0 then word.Queue ((n - 69793) / 2) else word.Steered ((n - 69793) / 2)
 
 number_tells : (packets : ℕ) (w : HintWord) → IsHintWord packets w → word_at (hint_number w) ≡ w
 number_tells packets (word.Socket e) lt =
@@ -41,21 +42,31 @@ number_tells packets (word.Filter e) lt =
     rw (a, b, c, d) (ap word.Filter (omega arith))
 number_tells packets word.Done lt = refl
 number_tells packets (word.Queue e) lt =
-    let a : nat_lt (69793 + e) 65536 ≡ false = grind (arith, nat_tests) in
-    let b : nat_lt (69793 + e) 65664 ≡ false = grind (arith, nat_tests) in
-    let c : nat_lt (69793 + e) 65696 ≡ false = grind (arith, nat_tests) in
-    let d : nat_lt (69793 + e) 69792 ≡ false = grind (arith, nat_tests) in
-    let f : ((69793 + e) == 69792) ≡ false = grind (arith, nat_tests) in
-    rw (a, b, c, d, f) (ap word.Queue (omega arith))
+    let a : nat_lt (69793 + 2 * e) 65536 ≡ false = grind (arith, nat_tests) in
+    let b : nat_lt (69793 + 2 * e) 65664 ≡ false = grind (arith, nat_tests) in
+    let c : nat_lt (69793 + 2 * e) 65696 ≡ false = grind (arith, nat_tests) in
+    let d : nat_lt (69793 + 2 * e) 69792 ≡ false = grind (arith, nat_tests) in
+    let f : ((69793 + 2 * e) == 69792) ≡ false = grind (arith, nat_tests) in
+    let h : ((69793 + 2 * e - 69793) % 2 == 0) ≡ true = grind (arith, nat_tests) in
+    rw (a, b, c, d, f, h) (ap word.Queue (omega arith))
+number_tells packets (word.Steered e) lt =
+    let a : nat_lt (69793 + 2 * e + 1) 65536 ≡ false = grind (arith, nat_tests) in
+    let b : nat_lt (69793 + 2 * e + 1) 65664 ≡ false = grind (arith, nat_tests) in
+    let c : nat_lt (69793 + 2 * e + 1) 65696 ≡ false = grind (arith, nat_tests) in
+    let d : nat_lt (69793 + 2 * e + 1) 69792 ≡ false = grind (arith, nat_tests) in
+    let f : ((69793 + 2 * e + 1) == 69792) ≡ false = grind (arith, nat_tests) in
+    let h : ((69793 + 2 * e + 1 - 69793) % 2 == 0) ≡ false = grind (arith, nat_tests) in
+    rw (a, b, c, d, f, h) (ap word.Steered (omega arith))
 
 within_count : (packets : ℕ) (w : HintWord) → IsHintWord packets w
-    → hint_number w < 69793 + packets
+    → hint_number w < 69793 + 2 * packets
 within_count packets (word.Socket e) lt = omega arith
 within_count packets (word.Redirection e) lt = omega arith
 within_count packets (word.Stand e) lt = omega arith
 within_count packets (word.Filter e) lt = omega arith
 within_count packets word.Done lt = omega arith
 within_count packets (word.Queue e) lt = omega arith
+within_count packets (word.Steered e) lt = omega arith
 
 pub hint_words_apart : (packets : ℕ) → HintWordsApart packets
 hint_words_apart packets =

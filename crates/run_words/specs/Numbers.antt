@@ -5,7 +5,7 @@ use Rattle.rss_table.specs.declared.reta.TheConstants.{RETA_ENTRIES}
 use Rattle.plan_reader.specs.declared.limits.TheConstants.{MAX_PLAN_FILTERS}
 use Rattle.run_words.specs.declared.hint_word.HintWord.{HintWord}
 use Rattle.run_words.specs.declared.hint_word.HintWord.TheVariants as word
-use Rattle.run_words.specs.declared.hint_word.TheConstants.{DONE_WORD, FILTER_WORDS, QUEUE_WORDS}
+use Rattle.run_words.specs.declared.hint_word.TheConstants.{DONE_WORD, FILTER_WORDS, PACKET_WORDS}
 use Rattle.run_words.specs.declared.hint_word.TheConstants.{REDIRECTION_WORDS, STAND_WORDS}
 use Rattle.run_words.specs.declared.setting.ReceiveSetting.{ReceiveSetting}
 use Rattle.run_words.specs.declared.setting.ReceiveSetting.TheVariants as receive
@@ -21,7 +21,8 @@ hint_number (word.Redirection entry) = REDIRECTION_WORDS + entry
 hint_number (word.Stand app) = STAND_WORDS + app
 hint_number (word.Filter entry) = FILTER_WORDS + entry
 hint_number word.Done = DONE_WORD
-hint_number (word.Queue id) = QUEUE_WORDS + id
+hint_number (word.Queue id) = PACKET_WORDS + 2 * id
+hint_number (word.Steered id) = PACKET_WORDS + 2 * id + 1
 
 -- There is such a word, for so many packets.
 abbrev pub IsHintWord : ℕ → HintWord → Type 0
@@ -31,10 +32,11 @@ IsHintWord packets (word.Stand app) = app < 32
 IsHintWord packets (word.Filter entry) = entry < MAX_PLAN_FILTERS
 IsHintWord packets word.Done = Unit {0}
 IsHintWord packets (word.Queue id) = id < packets
+IsHintWord packets (word.Steered id) = id < packets
 
 -- the number of words for so many packets
 abbrev pub word_count : ℕ → ℕ
-word_count packets = QUEUE_WORDS + packets
+word_count packets = PACKET_WORDS + 2 * packets
 
 -- ---- the settings of the boards
 

@@ -21,8 +21,9 @@ pub const FILTER_WORDS: u32 = STAND_WORDS + 32;
 /// The number of the word that says whether all packets have arrived.
 pub const DONE_WORD: u32 = FILTER_WORDS + MAX_PLAN_FILTERS;
 
-/// The number of the first word of the packets' receive queues.
-pub const QUEUE_WORDS: u32 = DONE_WORD + 1;
+/// The number of the first word of the packets, each of which has two: its receive queue, and
+/// whether it is steered.
+pub const PACKET_WORDS: u32 = DONE_WORD + 1;
 
 /// A word that threads share beside their boards.
 #[derive(Clone, Copy, Debug, PartialEq, Eq)]
@@ -39,6 +40,8 @@ pub enum HintWord {
     Done,
     /// The receive queue at which a packet arrived.
     Queue(PacketId),
+    /// Whether the poller of a packet has chosen its processor.
+    Steered(PacketId),
 }
 
 impl HintWord {
@@ -53,7 +56,8 @@ impl HintWord {
             HintWord::Stand(app) => STAND_WORDS + app.0 as u32,
             HintWord::Filter(entry) => FILTER_WORDS + entry,
             HintWord::Done => DONE_WORD,
-            HintWord::Queue(id) => QUEUE_WORDS + id.0,
+            HintWord::Queue(id) => PACKET_WORDS + 2 * id.0,
+            HintWord::Steered(id) => PACKET_WORDS + 2 * id.0 + 1,
         }
     }
 }
@@ -63,5 +67,5 @@ pub fn word_count(packets: u32) -> u32
     requires { packets ≤ MAX_PACKETS }
     ensures { result ≡ numbers.word_count packets }
 {
-    QUEUE_WORDS + packets
+    PACKET_WORDS + 2 * packets
 }

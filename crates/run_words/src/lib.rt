@@ -14,7 +14,7 @@ mod values;
 
 pub use first::{first_hint, first_receive_settings, first_transmit_settings};
 pub use hint_word::{
-    DONE_WORD, FILTER_WORDS, HintWord, QUEUE_WORDS, REDIRECTION_WORDS, STAND_WORDS, word_count,
+    DONE_WORD, FILTER_WORDS, HintWord, PACKET_WORDS, REDIRECTION_WORDS, STAND_WORDS, word_count,
 };
 pub use laws::{
     coded_values_read_back, first_values_stand, only_coded_values_are_read, words_lie_apart,
@@ -24,7 +24,7 @@ pub use seats::Seats;
 pub use setting::{ReceiveSetting, TransmitSetting};
 pub use shared::Shared;
 pub use values::{
-    CPU_WEIGHT, DONE, MARK_WEIGHT, cpus_in, cpus_word, filter_in, filter_word, flows_in,
+    CPU_WEIGHT, DONE, MARK_WEIGHT, STEERED, cpus_in, cpus_word, filter_in, filter_word, flows_in,
     flows_word, is_done, place_in, place_word, queues_in, queues_word, socket_size_in,
     socket_size_word,
 };

@@ -16,6 +16,9 @@ pub const MARK_WEIGHT: u64 = 512;
 /// The word that says that all packets have arrived.
 pub const DONE: u64 = 1;
 
+/// The word that says that the poller of a packet has chosen its processor.
+pub const STEERED: u64 = 1;
+
 /// The word of a processor or of a receive queue: its number and one more.
 pub fn place_word(place: u8) -> u64
     ensures { result ≡ values.place_word place }

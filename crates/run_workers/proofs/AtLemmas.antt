@@ -1,14 +1,14 @@
 -- The actor that a worker plays, and what its call asks for.
-use Rattle.std.proofs.Common.{◌≡◌, ℕ, ◌+◌, ◌<◌, ◌≤◌, Some, Vec, slice_get, slice_index_or, sym}
+use Rattle.std.proofs.Common.{◌≡◌, ℕ, ◌<◌, ◌≤◌, Some, Vec, slice_get, slice_index_or, sym}
 use Rattle.std.proofs.Common.{subst, ◌∙◌, vec_len}
 use Rattle.std.proofs.lemmas.Option.{slice_get_read}
-use Rattle.run_words.specs.declared.hint_word.TheConstants.{QUEUE_WORDS}
+use Rattle.run_words.specs.Numbers.{word_count}
 use Rattle.steer_model.specs.State.Setup.{Setup}
 use Rattle.run_workers.specs.Hands.Drains.{outs_of}
 use Rattle.run_workers.specs.declared.drain.Exit.{Exit}
 use Rattle.run_workers.specs.declared.server.Server.{Server}
 use Rattle.run_workers.specs.Actors.{KeepsServer}
-use Rattle.run_workers.specs.Stages.{StageView}
+use Rattle.run_workers.specs.Stages.{HasSizes, StageView}
 use Rattle.run_workers.specs.Workers.{IsWorking}
 use Rattle.run_words.specs.declared.seats.Seats.{Seats}
 use Rattle.run_workers.specs.declared.worker.Worker.{Worker}
@@ -23,11 +23,12 @@ pub outs_within : (given : Setup) (exit out : Exit) (outs : ℕ) → exit ≡ ou
 outs_within given exit out outs same within =
     subst (λ z. outs_of z given ≤ outs) (sym same) within
 
-module _ (t : StageView) (w : Worker) (s : Seats) (x : IsWorking t w s) (k : ℕ) (v : Server)
-    (kept : KeepsServer t s x.rows x.replies k v) where
-  pub reply_words : QUEUE_WORDS + v.sent.room ≤ t.shared.hints.words
-  reply_words =
-      subst (λ n. QUEUE_WORDS + n ≤ t.shared.hints.words) (sym kept.room) x.sizes.words
+-- there are words for as many packets as an actor has room for
+pub words_within : (t : StageView) (room : ℕ) → room ≡ t.rx.sizes.room → HasSizes t
+    → word_count room ≤ t.shared.hints.words
+words_within t room same sizes =
+    subst (λ n. word_count n ≤ t.shared.hints.words) (sym same) sizes.words
 
-  pub reply_room : v.sent.room ≡ t.tx.sizes.room
-  reply_room = kept.room ∙ sym x.sizes.room
+pub reply_room : (t : StageView) (w : Worker) (s : Seats) (x : IsWorking t w s) (k : ℕ) (v : Server)
+    → KeepsServer t s x.rows x.replies x.noted k v → v.sent.room ≡ t.tx.sizes.room
+reply_room t w s x k v kept = kept.room ∙ sym x.sizes.room

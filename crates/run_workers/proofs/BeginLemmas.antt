@@ -1,10 +1,11 @@
 -- A new worker, and one that knows the arrivals.
-use Rattle.std.proofs.Common.{◌≡◌, ℕ, List, [], None, arith, refl, sym, subst}
+use Rattle.std.proofs.Common.{◌≡◌, ℕ, List, [], None, refl, sym, subst}
 use Rattle.std.proofs.Common.{length}
 use Rattle.std.proofs.lemmas.List.Elements.{All-nil}
 use Rattle.linearization.specs.Orders.{StepBy}
 use Rattle.history.specs.declared.arrival.Arrival.{Arrival}
 use Rattle.hint_words.specs.declared.step.HintStep.{HintStep}
+use Rattle.hop_rule.proofs.Lists.{none-some}
 use Rattle.hop_rule.specs.Boards.{lane_steps}
 use Rattle.hop_rule.specs.Lanes.{holding, idle, out_holding, phase}
 use Rattle.hop_rule.specs.declared.sizes.BoardSizes.{BoardSizes}
@@ -21,6 +22,7 @@ use Rattle.run_workers.specs.declared.poller.Poller.{Poller}
 use Rattle.run_workers.specs.declared.server.Server.{Server}
 use Rattle.run_words.specs.declared.shared.Shared.{Shared}
 use Rattle.run_workers.specs.Records.Storing.{StoresAreFor}
+use Rattle.run_workers.specs.Records.Words.{Mark, Note}
 use Rattle.run_workers.proofs.Records.PollingLemmas.{pollers_begin}
 use Rattle.run_workers.proofs.Records.ReplyingLemmas.{arrivals_come, servers_begin}
 use Rattle.run_workers.specs.Actors.{KeepsDrain, KeepsPoller, KeepsServer}
@@ -48,10 +50,10 @@ explained_at_first : (seat : BoardSeatView) → seat.steps ≡ [] → Explained 
 explained_at_first seat none = subst (λ ds. Explained ds []) (sym none) refl
 
 nothing_stored : (given : Setup) (filters : ℕ) (hints : List HintStep) → hints ≡ []
-    → StoresAreFor given filters [] [] hints
+    → StoresAreFor given filters [] [] [] hints
 nothing_stored given filters hints none =
-    subst (StoresAreFor given filters [] []) (sym none)
-    (λ word value has. absurd (omega (arith, has.1)))
+    subst (StoresAreFor given filters [] [] []) (sym none)
+    (λ n word value d there writes. none-some d there)
 
 drain_begins : (about : BoardSizes) (given : Setup) (exit : Exit) (seat : BoardSeatView) (k : ℕ)
     (d : Drain) → seat.steps ≡ [] → IsNewDrain about given exit seat.number k d
@@ -59,18 +61,18 @@ drain_begins : (about : BoardSizes) (given : Setup) (exit : Exit) (seat : BoardS
 drain_begins about given exit seat k d none x = assumption (subst (IsDrain given d) (sym none) x.is)
 
 poller_begins : (t : StageView) (s : Seats) (first : ℕ → ℕ) (k : ℕ) (p : Poller)
-    → IsNewPoller t s.rx.number first k p → KeepsPoller t s first [] k p
+    → IsNewPoller t s.rx.number first k p → KeepsPoller t s first [] [] k p
 poller_begins t s first k p x =
     assumption (
-    pollers_begin t.shared.given (first p.queue) t.rx.sizes.start p [] s.hint.steps x.hand
-    x.flows x.choices x.accepted x.table x.ring refl)
+    pollers_begin t.shared.given (first p.queue) t.rx.sizes.start p [] [] s.hint.steps x.hand
+    x.flows x.choices x.accepted x.table x.ring refl refl)
 
 server_begins : (t : StageView) (s : Seats) (rows k : ℕ) (v : Server)
-    → IsNewServer t s.tx.number rows k v → KeepsServer t s rows [] k v
+    → IsNewServer t s.tx.number rows k v → KeepsServer t s rows [] [] k v
 server_begins t s rows k v x =
     assumption (
-    servers_begin t.shared.given rows t.tx.sizes.start t.late v [] s.rx.steps s.hint.steps x.hand
-    x.table x.sent x.choices x.writes refl)
+    servers_begin t.shared.given rows t.tx.sizes.start t.late v [] [] s.rx.steps s.hint.steps
+    x.hand x.table x.sent x.choices x.writes refl refl)
 
 pub workers_begin : WorkersBegin
 workers_begin t w s x =
@@ -85,11 +87,13 @@ workers_begin t w s x =
       turns = [];
       steered = explained_at_first s.rx x.rx_steps;
       by_pollers = All-nil _;
+      marks = [];
+      marked_by = All-nil _;
       replies = [];
       replied = explained_at_first s.tx x.tx_steps;
       by_servers = All-nil _;
       noted = [];
-      noted_by = λ write has. absurd (omega (arith, has.1));
+      noted_by = All-nil _;
       stores = nothing_stored t.shared.given t.shared.filters s.hint.steps x.hint_steps;
       pollers = λ k p got. poller_begins t s x.first k p (x.pollers k p got);
       drains = λ k d got.
@@ -111,16 +115,18 @@ module _ (rx tx : BoardView) (shared : Shared) (arrivals : List Arrival) (s : Se
   same_sizes : HasSizes before → HasSizes after
   same_sizes x = assumption
 
-  same_poller : (first : ℕ → ℕ) (turns : List (StepBy Turn)) (k : ℕ) (p : Poller)
-      → KeepsPoller before s first turns k p → KeepsPoller after s first turns k p
-  same_poller first turns k p x = assumption
+  same_poller : (first : ℕ → ℕ) (turns : List (StepBy Turn)) (marks : List (StepBy Mark)) (k : ℕ)
+      (p : Poller) → KeepsPoller before s first turns marks k p
+      → KeepsPoller after s first turns marks k p
+  same_poller first turns marks k p x = assumption
 
-  later_server : (rows : ℕ) (replies : List (StepBy Turn)) (k : ℕ) (v : Server)
-      → KeepsServer before s rows replies k v → KeepsServer after s rows replies k v
-  later_server rows replies k v x =
+  later_server : (rows : ℕ) (replies : List (StepBy Turn)) (noted : List (StepBy Note)) (k : ℕ)
+      (v : Server) → KeepsServer before s rows replies noted k v
+      → KeepsServer after s rows replies noted k v
+  later_server rows replies noted k v x =
       assumption (
-      arrivals_come shared.given rows tx.sizes.start arrivals v replies s.rx.steps s.hint.steps
-      x.keeps)
+      arrivals_come shared.given rows tx.sizes.start arrivals v replies noted s.rx.steps
+      s.hint.steps x.keeps)
 
 pub arrivals_become_known : ArrivalsBecomeKnown
 arrivals_become_known rx tx shared arrivals w s x =
@@ -135,6 +141,8 @@ arrivals_become_known rx tx shared arrivals w s x =
       turns = x.turns;
       steered = x.steered;
       by_pollers = x.by_pollers;
+      marks = x.marks;
+      marked_by = x.marked_by;
       replies = x.replies;
       replied = x.replied;
       by_servers = x.by_servers;
@@ -142,9 +150,9 @@ arrivals_become_known rx tx shared arrivals w s x =
       noted_by = x.noted_by;
       stores = x.stores;
       pollers = λ k p got.
-          same_poller rx tx shared arrivals s x.first x.turns k p (x.pollers k p got);
+          same_poller rx tx shared arrivals s x.first x.turns x.marks k p (x.pollers k p got);
       drains = x.drains;
       servers = λ k v got.
-          later_server rx tx shared arrivals s x.rows x.replies k v (x.servers k v got);
+          later_server rx tx shared arrivals s x.rows x.replies x.noted k v (x.servers k v got);
       ships = x.ships;
     }

@@ -2,6 +2,7 @@
 use Rattle.std.proofs.Common.{◌≡◌, ℕ, Some, ap, ◌∙◌, length, length-set, slice_get, slice_set}
 use Rattle.linearization.specs.Seats.{SeatView}
 use Rattle.hint_words.specs.declared.step.HintStep.{HintStep}
+use Rattle.board_api.specs.Seats.{BoardSeatView}
 use Rattle.steer_model.specs.State.Setup.{Setup}
 use Rattle.run_workers.specs.Hands.Deltas.{Serves, this_lane}
 use Rattle.run_workers.specs.Hands.Drains.{IsDrain}
@@ -45,19 +46,21 @@ module _ (t : StageView) (w v : Worker) (s r : Seats)
     rx : SameSeat s.rx r.rx
     rx = same_seat s.rx r.rx d.lane serves
 
-    drained : KeepsReceive t v r x.first x.turns
+    drained : KeepsReceive t v r x.first x.turns x.marks
     drained =
         lane_goes_on t.rx given Inboxes s.rx r.rx w.drains.items v.drains.items w.pollers.items
-        v.pollers.items (KeepsPoller t s x.first x.turns) (KeepsPoller t r x.first x.turns) x.turns
-        i d e drains there serves is lane exit (received t w v s r x) (ap length pollers)
+        v.pollers.items (KeepsPoller t s x.first x.turns x.marks)
+        (KeepsPoller t r x.first x.turns x.marks) x.turns i d e drains there serves is lane exit
+        (received t w v s r x) (ap length pollers)
         (pollers_stay t w v s r x hint_grow pollers rx.number)
 
     pub drain_goes_on : GoesOn t w v s r
     drain_goes_on =
         record {
-          is = works t w v s r x x.turns x.replies drained
+          is = works t w v s r x x.turns x.replies x.marks x.noted drained
               (transmit_stays t w v s r x hint_grow servers ships tx rx.steps)
-              (stores_stay t w v s r x servers hint);
+              (stores_stay t w v s r x pollers servers rx.number
+              (ap (λ (z : BoardSeatView). z.number) tx) hint);
           same = is_same w v s r (ap length pollers)
               (ap length drains ∙ length-set w.drains.items i e) (ap length servers)
               (ap length ships) (rings_stay w.pollers.items v.pollers.items pollers)
@@ -74,20 +77,21 @@ module _ (t : StageView) (w v : Worker) (s r : Seats)
     tx : SameSeat s.tx r.tx
     tx = same_seat s.tx r.tx d.lane serves
 
-    shipped : KeepsTransmit t v r x.rows x.replies
+    shipped : KeepsTransmit t v r x.rows x.replies x.noted
     shipped =
         lane_goes_on t.tx given Port s.tx r.tx w.ships.items v.ships.items w.servers.items
-        v.servers.items (KeepsServer t s x.rows x.replies) (KeepsServer t r x.rows x.replies)
-        x.replies i d e ships there serves is lane exit (transmitted t w v s r x)
-        (ap length servers)
+        v.servers.items (KeepsServer t s x.rows x.replies x.noted)
+        (KeepsServer t r x.rows x.replies x.noted) x.replies i d e ships there serves is lane exit
+        (transmitted t w v s r x) (ap length servers)
         (servers_stay t w v s r x hint_grow servers tx.number (seat_stays s.rx r.rx rx).steps)
 
     pub ship_goes_on : GoesOn t w v s r
     ship_goes_on =
         record {
-          is = works t w v s r x x.turns x.replies
+          is = works t w v s r x x.turns x.replies x.marks x.noted
               (receive_stays t w v s r x hint_grow pollers drains rx) shipped
-              (stores_stay t w v s r x servers hint);
+              (stores_stay t w v s r x pollers servers
+              (ap (λ (z : BoardSeatView). z.number) rx) tx.number hint);
           same = is_same w v s r (ap length pollers) (ap length drains) (ap length servers)
               (ap length ships ∙ length-set w.ships.items i e)
               (rings_stay w.pollers.items v.pollers.items pollers)

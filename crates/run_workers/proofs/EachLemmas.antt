@@ -8,7 +8,6 @@ use Rattle.std.proofs.lemmas.List.Elements.{All-cons}
 use Rattle.linearization.specs.Orders.{StepBy, step_by}
 use Rattle.hop_rule.specs.declared.sizes.BoardSizes.{BoardSizes}
 use Rattle.hop_rule.proofs.Lists.{none-some, some-is}
-use Rattle.hop_delivery.specs.Orders.Turns.{Turn}
 use Rattle.run_workers.specs.Records.Growth.{TurnsGrow}
 use Rattle.run_workers.specs.Actors.{Each, IsTurnOfOne, actor_at}
 
@@ -81,36 +80,24 @@ differs a b apart = by_test (eqb_tells a b)
     by_test (inl (t, same)) = absurd (apart (sym same))
     by_test (inr (t, differ)) = t
 
--- turns of a seat's actors, with at most one more
-pub turns_of_ones : (about : BoardSizes) (number count a k : ℕ) (turns more : List (StepBy Turn))
-    → k < count → a ≡ actor_at about number k → TurnsGrow a turns more
-    → All (IsTurnOfOne about number count) turns → All (IsTurnOfOne about number count) more
-turns_of_ones about number count a k turns more within own (inl same) all =
-    subst (All (IsTurnOfOne about number count)) (sym same) all
-turns_of_ones about number count a k turns more within own (inr (u, grown)) all =
-    subst (All (IsTurnOfOne about number count)) (sym grown)
-    (All-cons (IsTurnOfOne about number count) (step_by a u) turns (k, within, own) all)
-
--- the same turns of a seat with the same number and as many actors
-pub turns_stay : (about : BoardSizes) (number before count size : ℕ) (turns : List (StepBy Turn))
-    → number ≡ before → count ≡ size → All (IsTurnOfOne about before size) turns
-    → All (IsTurnOfOne about number count) turns
-turns_stay about number before count size turns same many all =
-    subst (λ (z : ℕ × ℕ). All (IsTurnOfOne about z.0 z.1) turns) (λ j. (sym same j, sym many j)) all
-
 module _ {A : Type 0} where
-  -- what is so of one item of a list, is so of one after an item was set that keeps it
-  pub one_kept : (Is : A → Type 0) (xs : List A) (i : ℕ) (x e : A) → slice_get xs i ≡ Some x
-      → (Is x → Is e) → (k : ℕ) (y : A) → slice_get xs k ≡ Some y → Is y
-      → (j : ℕ) × (z : A) × (slice_get (slice_set xs i e) j ≡ Some z) × Is z
-  one_kept Is [] i x e there keeps k y got is = none-some y got
-  one_kept Is (w ∷ xs) zero x e there keeps zero y got is =
-      (0, e, refl, keeps (subst Is (sym (some-is w y got) ∙ some-is w x there) is))
-  one_kept Is (w ∷ xs) zero x e there keeps (suc k) y got is = (suc k, y, got, is)
-  one_kept Is (w ∷ xs) (suc i) x e there keeps zero y got is = (0, y, got, is)
-  one_kept Is (w ∷ xs) (suc i) x e there keeps (suc k) y got is =
-      let later = one_kept Is xs i x e there keeps k y got is in
-      (suc later.0, later.1, later.2, later.3)
+  -- turns, marks or notes of a seat's actors, with at most one more
+  pub turns_of_ones : (about : BoardSizes) (number count a k : ℕ) (turns more : List (StepBy A))
+      → k < count → a ≡ actor_at about number k → TurnsGrow a turns more
+      → All (IsTurnOfOne about number count) turns → All (IsTurnOfOne about number count) more
+  turns_of_ones about number count a k turns more within own (inl same) all =
+      subst (All (IsTurnOfOne about number count)) (sym same) all
+  turns_of_ones about number count a k turns more within own (inr (u, grown)) all =
+      subst (All (IsTurnOfOne about number count)) (sym grown)
+      (All-cons (IsTurnOfOne about number count) (step_by a u) turns (k, within, own) all)
+
+  -- the same turns, marks or notes of a seat with the same number and as many actors
+  pub turns_stay : (about : BoardSizes) (number before count size : ℕ) (turns : List (StepBy A))
+      → number ≡ before → count ≡ size → All (IsTurnOfOne about before size) turns
+      → All (IsTurnOfOne about number count) turns
+  turns_stay about number before count size turns same many all =
+      subst (λ (z : ℕ × ℕ). All (IsTurnOfOne about z.0 z.1) turns) (λ j. (sym same j, sym many j))
+      all
 
   -- what was set is there
   pub set_there : (xs : List A) (i : ℕ) (x e : A) → slice_get xs i ≡ Some x

@@ -9,3 +9,4 @@ pub mod ServerLaws
 pub mod ServerLemmas
 pub mod StayLemmas
 pub mod VisitLemmas
+pub mod WaitLemmas

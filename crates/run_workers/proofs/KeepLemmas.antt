@@ -1,10 +1,8 @@
 -- What a worker keeps at the one board, at the other, and of its stores: what it keeps all in all,
 -- and what stays while it works elsewhere.
 use Rattle.std.proofs.Common.{◌≡◌, ℕ, List, All, refl, sym, ap, subst, ◌∙◌, length}
-use Rattle.std.specs.List.{Contains}
 use Rattle.linearization.specs.Orders.{StepBy}
 use Rattle.linearization.specs.Seats.{SeatView}
-use Rattle.history.specs.declared.sock_write.SockWrite.{SockWrite}
 use Rattle.hint_words.specs.declared.step.HintStep.{HintStep}
 use Rattle.board_api.specs.Calls.Rights.{HasOpen, IsOutside}
 use Rattle.board_api.specs.Seats.{BoardSeatView}
@@ -18,9 +16,10 @@ use Rattle.run_workers.specs.declared.drain.Exit.{Exit}
 use Rattle.run_workers.specs.declared.drain.Exit.TheVariants.{Inboxes, Port}
 use Rattle.run_workers.specs.Records.Growth.{Grows}
 use Rattle.run_workers.specs.Records.Storing.{StoresAreFor}
+use Rattle.run_workers.specs.Records.Words.{Mark, Note}
 use Rattle.run_workers.specs.Actors.{Each, IsTurnOfOne, KeepsDrain, KeepsPoller, KeepsServer}
 use Rattle.run_workers.specs.Stages.{StageView}
-use Rattle.run_workers.specs.Workers.{IsBetween, IsNotedBy, IsWorking}
+use Rattle.run_workers.specs.Workers.{IsBetween, IsWorking}
 use Rattle.run_words.specs.declared.seats.Seats.{Seats}
 use Rattle.run_workers.specs.declared.worker.Worker.{Worker}
 use Rattle.run_workers.proofs.EachLemmas.{each_more, turns_stay}
@@ -91,35 +90,39 @@ module _ {A : Type 0} (board : BoardView) (given : Setup) (exit : Exit) (old new
 
 -- ---- the worker
 
-abbrev pub KeepsReceive : StageView → Worker → Seats → (ℕ → ℕ) → List (StepBy Turn) → Type 0
-KeepsReceive t w s first turns =
+abbrev pub KeepsReceive : StageView → Worker → Seats → (ℕ → ℕ) → List (StepBy Turn)
+    → List (StepBy Mark) → Type 0
+KeepsReceive t w s first turns marks =
     KeepsBoard t.rx t.shared.given Inboxes s.rx w.drains.items w.pollers.items
-    (KeepsPoller t s first turns) turns
+    (KeepsPoller t s first turns marks) turns
 
-abbrev pub KeepsTransmit : StageView → Worker → Seats → ℕ → List (StepBy Turn) → Type 0
-KeepsTransmit t w s rows replies =
+abbrev pub KeepsTransmit : StageView → Worker → Seats → ℕ → List (StepBy Turn)
+    → List (StepBy Note) → Type 0
+KeepsTransmit t w s rows replies noted =
     KeepsBoard t.tx t.shared.given Port s.tx w.ships.items w.servers.items
-    (KeepsServer t s rows replies) replies
+    (KeepsServer t s rows replies noted) replies
 
 -- what a worker keeps of what it stored at the hint words
 pub record KeepsStores (t : StageView) (w : Worker) (s : Seats) (turns : List (StepBy Turn))
-    : Type 0 where
+    (marks : List (StepBy Mark)) (noted : List (StepBy Note)) : Type 0 where
   pub table : s.hint.table ≡ t.shared.hints.table
-  pub noted : List SockWrite
-  pub noted_by : (write : SockWrite) → Contains noted write → IsNotedBy w.servers.items write
-  pub stores : StoresAreFor t.shared.given t.shared.filters turns noted s.hint.steps
+  pub marked_by : All (IsTurnOfOne t.rx.sizes s.rx.number (length w.pollers.items)) marks
+  pub noted_by : All (IsTurnOfOne t.tx.sizes s.tx.number (length w.servers.items)) noted
+  pub stores : StoresAreFor t.shared.given t.shared.filters turns marks noted s.hint.steps
 
 -- the worker w has become v, and its seats r
 module _ (t : StageView) (w v : Worker) (s r : Seats) (x : IsWorking t w s) where
-  pub received : KeepsReceive t w s x.first x.turns
+  pub received : KeepsReceive t w s x.first x.turns x.marks
   received = assumption
 
-  pub transmitted : KeepsTransmit t w s x.rows x.replies
+  pub transmitted : KeepsTransmit t w s x.rows x.replies x.noted
   transmitted = assumption
 
-  pub works : (turns replies : List (StepBy Turn)) → KeepsReceive t v r x.first turns
-      → KeepsTransmit t v r x.rows replies → KeepsStores t v r turns → IsWorking t v r
-  works turns replies receive transmit stores =
+  pub works : (turns replies : List (StepBy Turn)) (marks : List (StepBy Mark))
+      (noted : List (StepBy Note)) → KeepsReceive t v r x.first turns marks
+      → KeepsTransmit t v r x.rows replies noted → KeepsStores t v r turns marks noted
+      → IsWorking t v r
+  works turns replies marks noted receive transmit stores =
       record {
         sizes = x.sizes;
         rx = receive.between;
@@ -131,10 +134,12 @@ module _ (t : StageView) (w v : Worker) (s r : Seats) (x : IsWorking t w s) wher
         turns = turns;
         steered = receive.explained;
         by_pollers = receive.by_actors;
+        marks = marks;
+        marked_by = stores.marked_by;
         replies = replies;
         replied = transmit.explained;
         by_servers = transmit.by_actors;
-        noted = stores.noted;
+        noted = noted;
         noted_by = stores.noted_by;
         stores = stores.stores;
         pollers = receive.each;
@@ -147,48 +152,64 @@ module _ (t : StageView) (w v : Worker) (s r : Seats) (x : IsWorking t w s) wher
 
   module _ (hints : Grows s.hint.steps r.hint.steps) where
     pub pollers_stay : v.pollers.items ≡ w.pollers.items → r.rx.number ≡ s.rx.number
-        → Each (KeepsPoller t r x.first x.turns) v.pollers.items
+        → Each (KeepsPoller t r x.first x.turns x.marks) v.pollers.items
     pollers_stay same number =
-        each_more (KeepsPoller t r x.first x.turns) (KeepsPoller t s x.first x.turns)
-        w.pollers.items v.pollers.items same
-        (λ k p kept. poller_stays t s r x.first x.turns x.turns k p number refl hints kept)
-        x.pollers
+        each_more (KeepsPoller t r x.first x.turns x.marks)
+        (KeepsPoller t s x.first x.turns x.marks) w.pollers.items v.pollers.items same
+        (λ k p kept. poller_stays t s r x.first x.turns x.turns x.marks x.marks k p number refl
+        refl hints kept) x.pollers
 
     pub servers_stay : v.servers.items ≡ w.servers.items → r.tx.number ≡ s.tx.number
-        → Grows s.rx.steps r.rx.steps → Each (KeepsServer t r x.rows x.replies) v.servers.items
+        → Grows s.rx.steps r.rx.steps
+        → Each (KeepsServer t r x.rows x.replies x.noted) v.servers.items
     servers_stay same number steps =
-        each_more (KeepsServer t r x.rows x.replies) (KeepsServer t s x.rows x.replies)
-        w.servers.items v.servers.items same
-        (λ k u kept. server_stays t s r x.rows x.replies x.replies k u number refl steps hints
-        kept) x.servers
+        each_more (KeepsServer t r x.rows x.replies x.noted)
+        (KeepsServer t s x.rows x.replies x.noted) w.servers.items v.servers.items same
+        (λ k u kept. server_stays t s r x.rows x.replies x.replies x.noted x.noted k u number refl
+        refl steps hints kept) x.servers
 
     -- ---- the board that is left alone
 
     pub receive_stays : v.pollers.items ≡ w.pollers.items → v.drains.items ≡ w.drains.items
-        → r.rx ≡ s.rx → KeepsReceive t v r x.first x.turns
+        → r.rx ≡ s.rx → KeepsReceive t v r x.first x.turns x.marks
     receive_stays pollers drains rx =
         board_stays t.rx t.shared.given Inboxes s.rx r.rx w.drains.items v.drains.items
-        w.pollers.items v.pollers.items (KeepsPoller t s x.first x.turns)
-        (KeepsPoller t r x.first x.turns) x.turns drains (ap length pollers)
+        w.pollers.items v.pollers.items (KeepsPoller t s x.first x.turns x.marks)
+        (KeepsPoller t r x.first x.turns x.marks) x.turns drains (ap length pollers)
         (pollers_stay pollers (ap (λ (z : BoardSeatView). z.number) rx)) received rx
 
     pub transmit_stays : v.servers.items ≡ w.servers.items → v.ships.items ≡ w.ships.items
-        → r.tx ≡ s.tx → Grows s.rx.steps r.rx.steps → KeepsTransmit t v r x.rows x.replies
+        → r.tx ≡ s.tx → Grows s.rx.steps r.rx.steps
+        → KeepsTransmit t v r x.rows x.replies x.noted
     transmit_stays servers ships tx steps =
         board_stays t.tx t.shared.given Port s.tx r.tx w.ships.items v.ships.items
-        w.servers.items v.servers.items (KeepsServer t s x.rows x.replies)
-        (KeepsServer t r x.rows x.replies) x.replies ships (ap length servers)
+        w.servers.items v.servers.items (KeepsServer t s x.rows x.replies x.noted)
+        (KeepsServer t r x.rows x.replies x.noted) x.replies ships (ap length servers)
         (servers_stay servers (ap (λ (z : BoardSeatView). z.number) tx) steps) transmitted tx
 
+  -- ---- what was stored
+
+  pub marks_stay : v.pollers.items ≡ w.pollers.items → r.rx.number ≡ s.rx.number
+      → All (IsTurnOfOne t.rx.sizes r.rx.number (length v.pollers.items)) x.marks
+  marks_stay pollers number =
+      turns_stay t.rx.sizes r.rx.number s.rx.number (length v.pollers.items)
+      (length w.pollers.items) x.marks number (ap length pollers) x.marked_by
+
+  pub notes_stay : length v.servers.items ≡ length w.servers.items → r.tx.number ≡ s.tx.number
+      → All (IsTurnOfOne t.tx.sizes r.tx.number (length v.servers.items)) x.noted
+  notes_stay many number =
+      turns_stay t.tx.sizes r.tx.number s.tx.number (length v.servers.items)
+      (length w.servers.items) x.noted number many x.noted_by
+
   -- nothing more was stored
-  pub stores_stay : v.servers.items ≡ w.servers.items → r.hint ≡ s.hint
-      → KeepsStores t v r x.turns
-  stores_stay servers hint =
+  pub stores_stay : v.pollers.items ≡ w.pollers.items → v.servers.items ≡ w.servers.items
+      → r.rx.number ≡ s.rx.number → r.tx.number ≡ s.tx.number → r.hint ≡ s.hint
+      → KeepsStores t v r x.turns x.marks x.noted
+  stores_stay pollers servers rx tx hint =
       record {
         table = ap (λ (z : Hint). z.table) hint ∙ x.hint_table;
-        noted = x.noted;
-        noted_by = λ write has.
-            subst (λ vs. IsNotedBy vs write) (sym servers) (x.noted_by write has);
-        stores = subst (λ (z : Hint). StoresAreFor t.shared.given t.shared.filters x.turns x.noted
-            z.steps) (sym hint) x.stores;
+        marked_by = marks_stay pollers rx;
+        noted_by = notes_stay (ap length servers) tx;
+        stores = subst (λ (z : Hint). StoresAreFor t.shared.given t.shared.filters x.turns x.marks
+            x.noted z.steps) (sym hint) x.stores;
       }

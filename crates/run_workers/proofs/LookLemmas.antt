@@ -1,15 +1,13 @@
 -- A worker after a look at a hint word, and how often it has looked.
-use Rattle.std.proofs.Common.{◌≡◌, ℕ, zero, suc, ◌+◌, ◌≤◌, cond, List, [], ◌∷◌, ◌++◌, refl, sym}
-use Rattle.std.proofs.Common.{ap, subst, ◌∙◌, arith}
+use Rattle.std.proofs.Common.{◌≡◌, ℕ, ◌+◌, ◌≤◌, cond, List, [], ◌∷◌, ◌++◌, refl, ap, ◌∙◌, arith}
 use Rattle.std.proofs.lemmas.List.Sums.{sum_by-append, sum_by-cons}
-use Rattle.std.specs.List.{Contains}
 use Rattle.linearization.specs.Seats.{SeatView}
 use Rattle.hint_words.specs.declared.step.HintStep.{HintStep}
-use Rattle.hint_words.specs.declared.step.HintStep.TheVariants.{Load, Store}
+use Rattle.hint_words.specs.declared.step.HintStep.TheVariants.{Load}
 use Rattle.run_words.specs.declared.hint_word.TheConstants.{DONE_WORD}
 use Rattle.run_workers.specs.Records.Growth.{Grows}
-use Rattle.run_workers.specs.Records.Storing.{StoresAreFor}
 use Rattle.run_workers.proofs.Records.HintLemmas.{steps_one}
+use Rattle.run_workers.proofs.Records.StoringLemmas.{load_stores}
 use Rattle.run_workers.specs.Looks.{Looks, is_look, look_count}
 use Rattle.run_workers.specs.Stages.{StageView}
 use Rattle.run_workers.specs.Workers.{GoesOn, IsWorking}
@@ -20,15 +18,6 @@ use Rattle.run_workers.proofs.SameLemmas.{same_worker}
 
 abbrev Hint : Type 0
 Hint = SeatView HintStep
-
-no_load : {A : Type 0} (a b word value : ℕ) → Load a b ≡ Store word value → A
-no_load a b word value e = cc
-
--- the stores of a list with a load more
-later_store : (a b word value : ℕ) (ds : List HintStep)
-    → Contains (Load a b ∷ ds) (Store word value) → Contains ds (Store word value)
-later_store a b word value ds (zero, less, is) = no_load a b word value is
-later_store a b word value ds (suc k, less, is) = (k, omega (arith, less), is)
 
 -- the worker's seat at the hint words has made one step, a load
 module _ (t : StageView) (w : Worker) (s : Seats) (word value : ℕ) (hint : Hint)
@@ -46,16 +35,15 @@ module _ (t : StageView) (w : Worker) (s : Seats) (word value : ℕ) (hint : Hin
   pub look_goes_on : GoesOn t w w s looked_seats
   look_goes_on =
       record {
-        is = works t w w s looked_seats x x.turns x.replies
+        is = works t w w s looked_seats x x.turns x.replies x.marks x.noted
             (receive_stays t w w s looked_seats x grow refl refl refl)
             (transmit_stays t w w s looked_seats x grow refl refl refl ([], refl))
             (record {
               table = table ∙ x.hint_table;
-              noted = x.noted;
+              marked_by = x.marked_by;
               noted_by = x.noted_by;
-              stores = subst (StoresAreFor t.shared.given t.shared.filters x.turns x.noted)
-                  (sym (ap (λ (h : Hint). h.steps) step))
-                  (λ a b has. x.stores a b (later_store word value a b s.hint.steps has));
+              stores = load_stores t.shared.given t.shared.filters x.turns x.marks x.noted word
+                  value s.hint hint step x.stores;
             });
         same = same_worker w s looked_seats refl refl table grow;
       }

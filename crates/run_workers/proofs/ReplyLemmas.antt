@@ -1,13 +1,7 @@
 -- A worker after one of its applications replied or kept its packet.
-use Rattle.std.proofs.Common.{◌≡◌, ◌≢◌, ℕ, ◌<◌, inr, Bool, true, false, List, [], Some, refl, sym}
-use Rattle.std.proofs.Common.{ap, subst, ◌∙◌}
+use Rattle.std.proofs.Common.{◌≡◌, ◌≢◌, ℕ, ◌<◌, inr, Bool, [], Some, refl, sym, ap, subst, ◌∙◌}
 use Rattle.std.proofs.Common.{length, length-set, slice_get, slice_set}
 use Rattle.std.proofs.lemmas.Option.{slice_get_within}
-use Rattle.std.specs.List.{Contains}
-use Rattle.linearization.specs.Seats.{SeatView}
-use Rattle.history.specs.declared.arrival.Arrival.{Arrival}
-use Rattle.history.specs.declared.sock_write.SockWrite.{SockWrite}
-use Rattle.hint_words.specs.declared.step.HintStep.{HintStep}
 use Rattle.board_api.specs.Calls.Rights.{HasOpen, IsOutside}
 use Rattle.board_api.specs.Seats.{BoardSeatView}
 use Rattle.steer_model.specs.State.Setup.{Setup}
@@ -25,27 +19,16 @@ use Rattle.run_workers.proofs.Records.ReplyingLemmas.{replies_go_on}
 use Rattle.run_workers.proofs.Records.StoringLemmas.{applications_store}
 use Rattle.run_workers.specs.Actors.{KeepsServer, actor_at}
 use Rattle.run_workers.specs.Stages.{StageView}
-use Rattle.run_workers.specs.Workers.{GoesOn, HasHomes, IsNotedBy, IsWorking}
+use Rattle.run_workers.specs.Workers.{GoesOn, HasHomes, IsWorking}
 use Rattle.run_words.specs.declared.seats.Seats.{Seats}
 use Rattle.run_workers.specs.declared.worker.Worker.{Worker}
-use Rattle.run_workers.proofs.EachLemmas.{actors_differ, each_same, each_set, one_kept}
-use Rattle.run_workers.proofs.EachLemmas.{turns_of_ones}
-use Rattle.run_workers.proofs.KeepLemmas.{KeepsTransmit, board_calls, receive_stays, transmitted}
-use Rattle.run_workers.proofs.KeepLemmas.{works}
+use Rattle.run_workers.proofs.EachLemmas.{actors_differ, each_same, each_set, turns_of_ones}
+use Rattle.run_workers.proofs.KeepLemmas.{KeepsTransmit, board_calls, marks_stay, notes_stay}
+use Rattle.run_workers.proofs.KeepLemmas.{receive_stays, transmitted, works}
 use Rattle.run_workers.proofs.SameLemmas.{drops_stay, homes_set, is_same, rings_stay}
 use Rattle.run_workers.proofs.SameLemmas.{seat_stays}
 use Rattle.run_workers.proofs.SeatLemmas.{replies_move}
 use Rattle.run_workers.proofs.StayLemmas.{server_stays}
-
-abbrev Hint : Type 0
-Hint = SeatView HintStep
-
--- a reply notes no write
-replies_note : (given : Setup) (late : List Arrival) (y u : Server) (sent : Bool)
-    (old new : BoardSeatView) (hint_old hint_new : Hint)
-    → RepliesOrKeeps given late y u old new hint_old hint_new sent → u.writes ≡ y.writes
-replies_note given late y u true old new hint_old hint_new x = ap (λ (z : Server). z.writes) x.same
-replies_note given late y u false old new hint_old hint_new x = ap (λ (z : Server). z.writes) x.same
 
 -- the application y at index i of a worker has become u, and its seats r
 module _ (t : StageView) (w v : Worker) (s r : Seats) (i : ℕ) (y u : Server) (sent : Bool)
@@ -59,15 +42,16 @@ module _ (t : StageView) (w v : Worker) (s r : Seats) (i : ℕ) (y u : Server) (
     abbrev given : Setup
     given = t.shared.given
 
-    was : KeepsServer t s x.rows x.replies i y
+    was : KeepsServer t s x.rows x.replies x.noted i y
     was = x.servers i y there
 
     stay : StaysApplication y u s.tx r.tx s.hint r.hint
     stay = applications_stay.replies given t.late y u sent s.tx r.tx s.hint r.hint replies
 
-    on : RepliesOn given x.rows t.tx.sizes.start t.late y u x.replies s.rx.steps r.tx r.hint
-    on = replies_go_on given x.rows t.tx.sizes.start t.late t.late y u sent x.replies s.rx.steps
-        s.tx r.tx s.hint r.hint replies was.is (inr refl) x.replied was.keeps
+    on : RepliesOn given x.rows t.tx.sizes.start t.late y u x.replies x.noted s.rx.steps r.tx
+        r.hint
+    on = replies_go_on given x.rows t.tx.sizes.start t.late t.late y u sent x.replies x.noted
+        s.rx.steps s.tx r.tx s.hint r.hint replies was.is (inr refl) x.replied was.keeps
 
     tx_grow : Grows s.tx.steps r.tx.steps
     tx_grow = (calls_add_steps.replies given t.late y u sent s.tx r.tx s.hint r.hint replies).0
@@ -81,7 +65,7 @@ module _ (t : StageView) (w v : Worker) (s r : Seats) (i : ℕ) (y u : Server) (
     many : length v.servers.items ≡ length w.servers.items
     many = ap length servers ∙ length-set w.servers.items i u
 
-    this_server : KeepsServer t r x.rows on.more i u
+    this_server : KeepsServer t r x.rows on.more x.noted i u
     this_server =
         record {
           own = stay.app ∙ (was.own ∙ ap (λ n. actor_at t.tx.sizes n i) (sym stay.number));
@@ -89,33 +73,27 @@ module _ (t : StageView) (w v : Worker) (s r : Seats) (i : ℕ) (y u : Server) (
           room = stay.room ∙ was.room;
           is = is;
           keeps = subst (λ (z : BoardSeatView). IsReplying given x.rows t.tx.sizes.start t.late u
-              on.more z.steps r.hint.steps) (sym rx) on.keeps;
+              on.more x.noted z.steps r.hint.steps) (sym rx) on.keeps;
         }
 
-    other_server : (k : ℕ) (z : Server) → k ≢ i → KeepsServer t s x.rows x.replies k z
-        → KeepsServer t r x.rows on.more k z
+    other_server : (k : ℕ) (z : Server) → k ≢ i → KeepsServer t s x.rows x.replies x.noted k z
+        → KeepsServer t r x.rows on.more x.noted k z
     other_server k z apart kept =
-        server_stays t s r x.rows x.replies on.more k z stay.number
+        server_stays t s r x.rows x.replies on.more x.noted x.noted k z stay.number
         (others_stay y.app z.app x.replies on.more
         (actors_differ t.tx.sizes s.tx.number i k y.app z.app was.own kept.own apart) on.grow)
-        rx_grow hint_grow kept
+        refl rx_grow hint_grow kept
 
-    kept_note : (write : SockWrite) → IsNotedBy w.servers.items write
-        → IsNotedBy (slice_set w.servers.items i u) write
-    kept_note write (k, z, got, has) =
-        one_kept (λ (a : Server). Contains a.writes.items write) w.servers.items i y u there
-        (subst (λ j. Contains j.items write)
-        (sym (replies_note given t.late y u sent s.tx r.tx s.hint r.hint replies))) k z got has
-
-    answered : KeepsTransmit t v r x.rows on.more
+    answered : KeepsTransmit t v r x.rows on.more x.noted
     answered =
         board_calls t.tx given Port s.tx r.tx w.ships.items v.ships.items w.servers.items
-        v.servers.items (KeepsServer t s x.rows x.replies) (KeepsServer t r x.rows on.more)
-        x.replies ships many
-        (each_same (KeepsServer t r x.rows on.more) (slice_set w.servers.items i u)
+        v.servers.items (KeepsServer t s x.rows x.replies x.noted)
+        (KeepsServer t r x.rows on.more x.noted) x.replies ships many
+        (each_same (KeepsServer t r x.rows on.more x.noted) (slice_set w.servers.items i u)
         v.servers.items servers
-        (each_set (KeepsServer t r x.rows on.more) (KeepsServer t s x.rows x.replies)
-        w.servers.items i u this_server other_server x.servers))
+        (each_set (KeepsServer t r x.rows on.more x.noted)
+        (KeepsServer t s x.rows x.replies x.noted) w.servers.items i u this_server other_server
+        x.servers))
         (transmitted t w v s r x) on.more stay.number
         (replies_move given t.late y u sent s.tx r.tx s.hint r.hint replies) outside gate
         on.explained
@@ -127,16 +105,15 @@ module _ (t : StageView) (w v : Worker) (s r : Seats) (i : ℕ) (y u : Server) (
     pub reply_goes_on : GoesOn t w v s r
     reply_goes_on =
         record {
-          is = works t w v s r x x.turns on.more
+          is = works t w v s r x x.turns on.more x.marks x.noted
               (receive_stays t w v s r x hint_grow pollers drains rx) answered
               (record {
                 table = stay.hint_table ∙ x.hint_table;
-                noted = x.noted;
-                noted_by = λ write has.
-                    subst (λ vs. IsNotedBy vs write) (sym servers)
-                    (kept_note write (x.noted_by write has));
+                marked_by = marks_stay t w v s r x pollers
+                    (ap (λ (z : BoardSeatView). z.number) rx);
+                noted_by = notes_stay t w v s r x many stay.number;
                 stores = applications_store.replies given t.shared.filters t.late y u sent x.turns
-                    x.noted s.tx r.tx s.hint r.hint replies x.stores;
+                    x.marks x.noted s.tx r.tx s.hint r.hint replies x.stores;
               });
           same = is_same w v s r (ap length pollers) (ap length drains) many (ap length ships)
               (rings_stay w.pollers.items v.pollers.items pollers)

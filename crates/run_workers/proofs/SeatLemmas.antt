@@ -23,8 +23,9 @@ use Rattle.run_workers.specs.Hands.Pollers.{Polls, SteersHand, Waits}
 use Rattle.run_workers.specs.Hands.Servers.{BacksOut, RepliesOrKeeps, TakesOrLeaves}
 use Rattle.run_workers.specs.declared.poller.Poller.{Poller}
 use Rattle.run_workers.specs.declared.server.Server.{Server}
-use Rattle.run_workers.proofs.Hands.DeltaLemmas.{without_reason, without_reasons}
 use Rattle.run_workers.proofs.Hands.DeltaLemmas.{adds_both, holds_both, leaves_both}
+use Rattle.run_workers.proofs.Hands.DeltaLemmas.{without_reasons}
+use Rattle.run_workers.proofs.Hands.WaitLemmas.{leaves_at_board, waits_at_board}
 use Rattle.run_workers.specs.Actors.{IsForeign}
 use Rattle.run_workers.specs.Workers.{IsBetween}
 
@@ -96,7 +97,7 @@ polls_steer : (given : Setup) (filters : ℕ) (mid q : Poller) (old new : BoardS
     hint_new)
     → Moves no_lane old new
 polls_steer given filters mid q old new hint_old hint_new (inl waits) =
-    move_gate old new (without_reason waits.steps)
+    move_gate old new (waits_at_board mid q old new hint_old hint_new waits)
 polls_steer given filters mid q old new hint_old hint_new (inr (id, hand, steers)) =
     record {
       added = visit_with steers.turn [] [];
@@ -124,7 +125,7 @@ takes_move about given s t true old new hint_old hint_new x =
     (move_record x.mid new x.records.word (2 * length given.homes) x.records.size x.records.adds)
 takes_move about given s t false old new hint_old hint_new x =
     move_both old x.mid new (serves_move no_lane old x.mid x.looks)
-    (move_gate x.mid new (without_reasons x.gate))
+    (move_gate x.mid new (leaves_at_board about s t old new hint_old hint_new x))
 
 pub replies_move : (given : Setup) (late : List Arrival) (s t : Server) (sent : Bool)
     (old new : BoardSeatView) (hint_old hint_new : Hint)

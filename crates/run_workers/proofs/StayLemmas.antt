@@ -12,6 +12,7 @@ use Rattle.run_workers.specs.declared.drain.Exit.{Exit}
 use Rattle.run_workers.specs.declared.poller.Poller.{Poller}
 use Rattle.run_workers.specs.declared.server.Server.{Server}
 use Rattle.run_workers.specs.Records.Growth.{Grows}
+use Rattle.run_workers.specs.Records.Words.{Mark, Note}
 use Rattle.run_workers.proofs.Records.PollingLemmas.{pollers_stay}
 use Rattle.run_workers.proofs.Records.ReplyingLemmas.{servers_stay}
 use Rattle.run_workers.specs.Actors.{KeepsDrain, KeepsPoller, KeepsServer, actor_at}
@@ -19,26 +20,29 @@ use Rattle.run_workers.specs.Stages.{StageView}
 use Rattle.run_words.specs.declared.seats.Seats.{Seats}
 
 module _ (t : StageView) (s r : Seats) where
-  pub poller_stays : (first : ℕ → ℕ) (turns more : List (StepBy Turn)) (k : ℕ) (p : Poller)
-      → r.rx.number ≡ s.rx.number → steps_of p.queue more ≡ steps_of p.queue turns
-      → Grows s.hint.steps r.hint.steps → KeepsPoller t s first turns k p
-      → KeepsPoller t r first more k p
-  poller_stays first turns more k p number same hints x =
+  pub poller_stays : (first : ℕ → ℕ) (turns more : List (StepBy Turn))
+      (marks more_marks : List (StepBy Mark)) (k : ℕ) (p : Poller) → r.rx.number ≡ s.rx.number
+      → steps_of p.queue more ≡ steps_of p.queue turns
+      → steps_of p.queue more_marks ≡ steps_of p.queue marks → Grows s.hint.steps r.hint.steps
+      → KeepsPoller t s first turns marks k p → KeepsPoller t r first more more_marks k p
+  poller_stays first turns more marks more_marks k p number same same_marks hints x =
       assumption (
         x.own ∙ ap (λ n. actor_at t.rx.sizes n k) (sym number),
-        pollers_stay t.shared.given (first p.queue) t.rx.sizes.start p turns more s.hint.steps
-            r.hint.steps same hints x.keeps,
+        pollers_stay t.shared.given (first p.queue) t.rx.sizes.start p turns more marks more_marks
+            s.hint.steps r.hint.steps same same_marks hints x.keeps,
       )
 
-  pub server_stays : (rows : ℕ) (replies more : List (StepBy Turn)) (k : ℕ) (v : Server)
-      → r.tx.number ≡ s.tx.number → steps_of v.app more ≡ steps_of v.app replies
+  pub server_stays : (rows : ℕ) (replies more : List (StepBy Turn))
+      (noted more_notes : List (StepBy Note)) (k : ℕ) (v : Server) → r.tx.number ≡ s.tx.number
+      → steps_of v.app more ≡ steps_of v.app replies
+      → steps_of v.app more_notes ≡ steps_of v.app noted
       → Grows s.rx.steps r.rx.steps → Grows s.hint.steps r.hint.steps
-      → KeepsServer t s rows replies k v → KeepsServer t r rows more k v
-  server_stays rows replies more k v number same steps hints x =
+      → KeepsServer t s rows replies noted k v → KeepsServer t r rows more more_notes k v
+  server_stays rows replies more noted more_notes k v number same same_notes steps hints x =
       assumption (
         x.own ∙ ap (λ n. actor_at t.tx.sizes n k) (sym number),
-        servers_stay t.shared.given rows t.tx.sizes.start t.late v replies more s.rx.steps
-            r.rx.steps s.hint.steps r.hint.steps same steps hints x.keeps,
+        servers_stay t.shared.given rows t.tx.sizes.start t.late v replies more noted more_notes
+            s.rx.steps r.rx.steps s.hint.steps r.hint.steps same same_notes steps hints x.keeps,
       )
 
 -- a drain with the record of its seat's steps after a call

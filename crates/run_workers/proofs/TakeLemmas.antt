@@ -1,66 +1,46 @@
 -- A worker after one of its applications took a packet or none.
-use Rattle.std.proofs.Common.{◌≡◌, ℕ, ◌<◌, inl, inr, Bool, true, false, Option, None, Some}
+use Rattle.std.proofs.Common.{◌≡◌, ◌≢◌, ℕ, ◌<◌, inl, inr, All, Bool, List, Some}
 use Rattle.std.proofs.Common.{refl, sym, ap, subst, ◌∙◌}
-use Rattle.std.proofs.Common.{◌++◌, length, length-set, slice_get, slice_set}
-use Rattle.std.specs.List.{Contains}
-use Rattle.std.proofs.lemmas.List.Elements.{Contains-append_cases, Contains-append_left}
-use Rattle.std.proofs.lemmas.List.Elements.{Contains-append_right}
-use Rattle.linearization.specs.Seats.{SeatView}
-use Rattle.steer_base.specs.Journals.{Journal}
-use Rattle.history.specs.declared.sock_write.SockWrite.{SockWrite}
-use Rattle.hint_words.specs.declared.step.HintStep.{HintStep}
-use Rattle.hop_rule.specs.declared.sizes.BoardSizes.{BoardSizes}
+use Rattle.std.proofs.Common.{length, length-set, slice_get, slice_set}
+use Rattle.std.proofs.lemmas.Option.{slice_get_within}
+use Rattle.linearization.specs.Orders.{StepBy}
 use Rattle.board_api.specs.Calls.Rights.{HasOpen, IsOutside}
 use Rattle.board_api.specs.Seats.{BoardSeatView}
 use Rattle.steer_model.specs.State.Setup.{Setup}
 use Rattle.run_workers.specs.Hands.Laws.{StaysApplication}
-use Rattle.run_workers.specs.Hands.Servers.{IsServer, TakesOrLeaves, Writes}
+use Rattle.run_workers.specs.Hands.Servers.{IsServer, TakesOrLeaves}
 use Rattle.run_workers.specs.declared.drain.Exit.TheVariants.{Inboxes, Port}
 use Rattle.run_workers.specs.declared.server.Server.{Server}
 use Rattle.run_workers.proofs.Hands.ServerLaws.{applications_explain, applications_leave_drains}
 use Rattle.run_workers.proofs.Hands.ServerLaws.{applications_stay}
-use Rattle.run_workers.specs.Records.Growth.{Grows}
+use Rattle.run_workers.specs.Records.Growth.{Grows, TurnsGrow}
+use Rattle.run_workers.specs.Records.ReplyingLaws.{TakesOn}
+use Rattle.run_workers.specs.Records.Storing.{NotesGrow}
+use Rattle.run_workers.specs.Records.Words.{Note}
 use Rattle.run_workers.proofs.Records.AddedLemmas.{calls_add_steps}
+use Rattle.run_workers.proofs.Records.ListLemmas.{others_stay}
 use Rattle.run_workers.proofs.Records.ReplyingLemmas.{takes_go_on}
 use Rattle.run_workers.proofs.Records.StoringLemmas.{applications_store}
-use Rattle.run_workers.specs.Actors.{KeepsPoller, KeepsServer, actor_at}
+use Rattle.run_workers.specs.Actors.{IsTurnOfOne, KeepsPoller, KeepsServer, actor_at}
 use Rattle.run_workers.specs.Stages.{StageView}
-use Rattle.run_workers.specs.Workers.{GoesOn, HasHomes, IsNotedBy, IsWorking}
+use Rattle.run_workers.specs.Workers.{GoesOn, HasHomes, IsWorking}
 use Rattle.run_words.specs.declared.seats.Seats.{Seats}
 use Rattle.run_workers.specs.declared.worker.Worker.{Worker}
-use Rattle.run_workers.proofs.EachLemmas.{each_same, each_set, one_kept, set_there}
+use Rattle.run_workers.proofs.EachLemmas.{actors_differ, each_same, each_set, turns_of_ones}
+use Rattle.run_workers.proofs.EachLemmas.{turns_stay}
 use Rattle.run_workers.proofs.KeepLemmas.{KeepsReceive, KeepsTransmit, board_calls, board_stays}
-use Rattle.run_workers.proofs.KeepLemmas.{pollers_stay, received, transmitted, works}
+use Rattle.run_workers.proofs.KeepLemmas.{marks_stay, pollers_stay, received, transmitted}
+use Rattle.run_workers.proofs.KeepLemmas.{works}
 use Rattle.run_workers.proofs.SameLemmas.{drops_stay, homes_set, is_same, rings_stay}
 use Rattle.run_workers.proofs.SameLemmas.{seat_stays}
 use Rattle.run_workers.proofs.SeatLemmas.{takes_move}
 use Rattle.run_workers.proofs.StayLemmas.{server_stays}
 
-abbrev Hint : Type 0
-Hint = SeatView HintStep
-
--- ---- writes that were noted stay noted
-
-write_stays : (cpus app home : ℕ) (entry : Option ℕ) (before after : Journal SockWrite)
-    (old new : Hint) → Writes cpus app home entry before after old new → (write : SockWrite)
-    → Contains before.items write → Contains after.items write
-write_stays cpus app home None before after old new is write has =
-    subst (λ (j : Journal SockWrite). Contains j.items write) (sym is.0) has
-write_stays cpus app home (Some entry) before after old new is write has =
-    subst (λ (j : Journal SockWrite). Contains j.items write) (sym is.4)
-    (Contains-append_left before.items _ write has)
-
-takes_note : (about : BoardSizes) (given : Setup) (y u : Server) (took : Bool)
-    (old new : BoardSeatView) (hint_old hint_new : Hint)
-    → TakesOrLeaves about given y u old new hint_old hint_new took → (write : SockWrite)
-    → Contains y.writes.items write → Contains u.writes.items write
-takes_note about given y u true old new hint_old hint_new x write has =
-    write_stays given.cpus y.app y.home _ y.writes u.writes hint_old hint_new x.records.writes
-    write has
-takes_note about given y u false old new hint_old hint_new x write has =
-    subst (λ (z : Server). Contains z.writes.items write) (sym x.same) has
-
--- ---- the worker
+-- the notes have at most one more of the application
+notes_grow : (y u : Server) (noted more : List (StepBy Note)) → NotesGrow y u noted more
+    → TurnsGrow y.app noted more
+notes_grow y u noted more (inl same) = inl same.0
+notes_grow y u noted more (inr (n, hand, writes, grown)) = inr (n, grown)
 
 -- the application y at index i of a worker has become u, and its seats r
 module _ (t : StageView) (w v : Worker) (s r : Seats) (i : ℕ) (y u : Server) (took : Bool)
@@ -74,7 +54,7 @@ module _ (t : StageView) (w v : Worker) (s r : Seats) (i : ℕ) (y u : Server) (
     abbrev given : Setup
     given = t.shared.given
 
-    was : KeepsServer t s x.rows x.replies i y
+    was : KeepsServer t s x.rows x.replies x.noted i y
     was = x.servers i y there
 
     stay : StaysApplication y u s.rx r.rx s.hint r.hint
@@ -83,75 +63,80 @@ module _ (t : StageView) (w v : Worker) (s r : Seats) (i : ℕ) (y u : Server) (
     grow : Grows s.rx.steps r.rx.steps × Grows s.hint.steps r.hint.steps
     grow = calls_add_steps.takes t.rx.sizes given y u took s.rx r.rx s.hint r.hint takes
 
+    on : TakesOn given x.rows t.tx.sizes.start t.late y u x.replies x.noted r.rx r.hint
+    on = takes_go_on t.rx.sizes given x.rows t.tx.sizes.start t.late y u took x.replies x.noted
+        s.rx r.rx s.hint r.hint takes was.keeps
+
+    on_grow : TurnsGrow y.app x.noted on.more
+    on_grow = notes_grow y u x.noted on.more on.grow
+
     many : length v.servers.items ≡ length w.servers.items
     many = ap length servers ∙ length-set w.servers.items i u
 
     tx_number : r.tx.number ≡ s.tx.number
     tx_number = ap (λ (z : BoardSeatView). z.number) tx
 
-    this_server : KeepsServer t r x.rows x.replies i u
+    this_server : KeepsServer t r x.rows x.replies on.more i u
     this_server =
         record {
           own = stay.app ∙ (was.own ∙ ap (λ n. actor_at t.tx.sizes n i) (sym tx_number));
           within = subst (λ n. n < t.rx.sizes.outs) (sym stay.app) was.within;
           room = stay.room ∙ was.room;
           is = is;
-          keeps = takes_go_on t.rx.sizes given x.rows t.tx.sizes.start t.late y u took x.replies
-              s.rx r.rx s.hint r.hint takes was.keeps;
+          keeps = on.keeps;
         }
 
-    kept_note : (write : SockWrite) → IsNotedBy w.servers.items write
-        → IsNotedBy (slice_set w.servers.items i u) write
-    kept_note write (k, z, got, has) =
-        one_kept (λ (a : Server). Contains a.writes.items write) w.servers.items i y u there
-        (takes_note t.rx.sizes given y u took s.rx r.rx s.hint r.hint takes write) k z got has
+    other_server : (k : ℕ) (z : Server) → k ≢ i → KeepsServer t s x.rows x.replies x.noted k z
+        → KeepsServer t r x.rows x.replies on.more k z
+    other_server k z apart kept =
+        server_stays t s r x.rows x.replies x.replies x.noted on.more k z tx_number refl
+        (others_stay y.app z.app x.noted on.more
+        (actors_differ t.tx.sizes s.tx.number i k y.app z.app was.own kept.own apart) on_grow)
+        grow.0 grow.1 kept
 
-    notes : (write : SockWrite) → Contains (u.writes.items ++ x.noted) write
-        → IsNotedBy (slice_set w.servers.items i u) write
-    notes write has =
-        elim (Contains-append_cases u.writes.items x.noted write has) [
-          | inl new ↦ (i, u, set_there w.servers.items i y u there, new)
-          | inr old ↦ kept_note write (x.noted_by write old)
-        ]
+    noted_by : All (IsTurnOfOne t.tx.sizes r.tx.number (length v.servers.items)) on.more
+    noted_by =
+        turns_stay t.tx.sizes r.tx.number s.tx.number (length v.servers.items)
+        (length w.servers.items) on.more tx_number many
+        (turns_of_ones t.tx.sizes s.tx.number (length w.servers.items) y.app i x.noted on.more
+        (slice_get_within w.servers.items i y there) was.own on_grow x.noted_by)
 
-    looked : KeepsReceive t v r x.first x.turns
+    looked : KeepsReceive t v r x.first x.turns x.marks
     looked =
         board_calls t.rx given Inboxes s.rx r.rx w.drains.items v.drains.items w.pollers.items
-        v.pollers.items (KeepsPoller t s x.first x.turns) (KeepsPoller t r x.first x.turns) x.turns
-        drains (ap length pollers) (pollers_stay t w v s r x grow.1 pollers stay.number)
-        (received t w v s r x) x.turns stay.number
+        v.pollers.items (KeepsPoller t s x.first x.turns x.marks)
+        (KeepsPoller t r x.first x.turns x.marks) x.turns drains (ap length pollers)
+        (pollers_stay t w v s r x grow.1 pollers stay.number) (received t w v s r x) x.turns
+        stay.number
         (takes_move t.rx.sizes given y u took s.rx r.rx s.hint r.hint takes) outside gate
         (applications_explain.takes t.rx.sizes given y u took s.rx r.rx s.hint r.hint takes x.turns
         x.steered) x.by_pollers
         (λ d. applications_leave_drains.takes t.rx.sizes given d y u took s.rx r.rx s.hint r.hint
         takes)
 
-    waits : KeepsTransmit t v r x.rows x.replies
+    waits : KeepsTransmit t v r x.rows x.replies on.more
     waits =
         board_stays t.tx given Port s.tx r.tx w.ships.items v.ships.items w.servers.items
-        v.servers.items (KeepsServer t s x.rows x.replies) (KeepsServer t r x.rows x.replies)
-        x.replies ships many
-        (each_same (KeepsServer t r x.rows x.replies) (slice_set w.servers.items i u)
+        v.servers.items (KeepsServer t s x.rows x.replies x.noted)
+        (KeepsServer t r x.rows x.replies on.more) x.replies ships many
+        (each_same (KeepsServer t r x.rows x.replies on.more) (slice_set w.servers.items i u)
         v.servers.items servers
-        (each_set (KeepsServer t r x.rows x.replies) (KeepsServer t s x.rows x.replies)
-        w.servers.items i u this_server
-        (λ k z apart kept. server_stays t s r x.rows x.replies x.replies k z tx_number refl grow.0
-        grow.1 kept) x.servers))
+        (each_set (KeepsServer t r x.rows x.replies on.more)
+        (KeepsServer t s x.rows x.replies x.noted) w.servers.items i u this_server other_server
+        x.servers))
         (transmitted t w v s r x) tx
 
     pub take_goes_on : GoesOn t w v s r
     take_goes_on =
         record {
-          is = works t w v s r x x.turns x.replies looked waits
+          is = works t w v s r x x.turns x.replies x.marks on.more looked waits
               (record {
                 table = stay.hint_table ∙ x.hint_table;
-                noted = u.writes.items ++ x.noted;
-                noted_by = λ write has.
-                    subst (λ vs. IsNotedBy vs write) (sym servers) (notes write has);
+                marked_by = marks_stay t w v s r x pollers stay.number;
+                noted_by = noted_by;
                 stores = applications_store.takes t.rx.sizes given t.shared.filters y u took
-                    x.turns x.noted (u.writes.items ++ x.noted) s.rx r.rx s.hint r.hint takes
-                    (Contains-append_right u.writes.items x.noted)
-                    (Contains-append_left u.writes.items x.noted) x.stores;
+                    x.turns x.marks x.noted on.more s.rx r.rx s.hint r.hint takes on.grow
+                    x.stores;
               });
           same = is_same w v s r (ap length pollers) (ap length drains) many (ap length ships)
               (rings_stay w.pollers.items v.pollers.items pollers)

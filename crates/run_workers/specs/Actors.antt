@@ -15,6 +15,7 @@ use Rattle.run_workers.specs.declared.poller.Poller.{Poller}
 use Rattle.run_workers.specs.declared.server.Server.{Server}
 use Rattle.run_workers.specs.Records.Polling.{IsPolling}
 use Rattle.run_workers.specs.Records.Replying.{IsReplying}
+use Rattle.run_workers.specs.Records.Words.{Mark, Note}
 use Rattle.run_workers.specs.Stages.{StageView}
 use Rattle.run_words.specs.declared.seats.Seats.{Seats}
 
@@ -27,9 +28,9 @@ Each {A} Is xs = (k : ℕ) (x : A) → slice_get xs k ≡ Some x → Is k x
 abbrev pub actor_at : BoardSizes → ℕ → ℕ → ℕ
 actor_at about number k = number + max 1 (about.seats - 1) * k
 
--- The turn is of one of the first so many actors of a seat.
-abbrev pub IsTurnOfOne : BoardSizes → ℕ → ℕ → StepBy Turn → Type 0
-IsTurnOfOne about number count e =
+-- The turn, mark or note is of one of the first so many actors of a seat.
+abbrev pub IsTurnOfOne : {A : Type 0} → BoardSizes → ℕ → ℕ → StepBy A → Type 0
+IsTurnOfOne {A} about number count e =
     (k : ℕ) × (k < count) × (e.by ≡ actor_at about number k)
 
 -- The lane is none of the first so many that a seat serves.
@@ -39,12 +40,12 @@ IsForeign about number count lane = (k : ℕ) → k < count → lane ≢ actor_a
 -- A poller has its own queue, room for all packets, and its record over the turns of its seat.
 -- `first` has the flow word of each queue at the start.
 pub record KeepsPoller (t : StageView) (s : Seats) (first : ℕ → ℕ)
-    (turns : List (StepBy Turn)) (k : ℕ) (p : Poller) : Type 0 where
+    (turns : List (StepBy Turn)) (marks : List (StepBy Mark)) (k : ℕ) (p : Poller) : Type 0 where
   pub own : p.queue ≡ actor_at t.rx.sizes s.rx.number k
   pub within : p.queue < length t.shared.given.homes
   pub room : p.choices.room ≡ t.rx.sizes.room
   pub is : IsPoller t.shared.given.cpus p
-  pub keeps : IsPolling t.shared.given (first p.queue) t.rx.sizes.start p turns s.hint.steps
+  pub keeps : IsPolling t.shared.given (first p.queue) t.rx.sizes.start p turns marks s.hint.steps
 
 -- A drain has its own lane, from which its seat may pull, and this exit, and its record over the
 -- steps of its seat.
@@ -59,10 +60,11 @@ pub record KeepsDrain (about : BoardSizes) (given : Setup) (exit : Exit) (seat :
 -- An application is one of its worker's own, has room for all packets, and has its record over the
 -- turns of its seat at the transmit board. `rows` is the number of classes of its flow table.
 pub record KeepsServer (t : StageView) (s : Seats) (rows : ℕ)
-    (replies : List (StepBy Turn)) (k : ℕ) (v : Server) : Type 0 where
+    (replies : List (StepBy Turn)) (noted : List (StepBy Note)) (k : ℕ) (v : Server)
+    : Type 0 where
   pub own : v.app ≡ actor_at t.tx.sizes s.tx.number k
   pub within : v.app < t.rx.sizes.outs
   pub room : v.sent.room ≡ t.rx.sizes.room
   pub is : IsServer t.shared.given v
-  pub keeps : IsReplying t.shared.given rows t.tx.sizes.start t.late v replies s.rx.steps
+  pub keeps : IsReplying t.shared.given rows t.tx.sizes.start t.late v replies noted s.rx.steps
       s.hint.steps

@@ -1,3 +1,4 @@
+pub mod Words
 pub mod Growth
 pub mod Polling
 pub mod Replying

@@ -1,11 +1,10 @@
 -- What a worker keeps of its seats and of its actors. Lists of turns and of steps have the newest
 -- first.
 use Rattle.std.specs.Prelude.{◌≡◌, ◌≤◌, ℕ, Bool, ◌&&◌, List, Some, None, All, length, slice_get}
-use Rattle.std.specs.List.{Contains, list_all}
+use Rattle.std.specs.List.{list_all}
 use Rattle.std.specs.Option.{is_none}
 use Rattle.rtrb.specs.Ring.{SameConsumer}
 use Rattle.linearization.specs.Orders.{StepBy}
-use Rattle.history.specs.declared.sock_write.SockWrite.{SockWrite}
 use Rattle.hop_rule.specs.Boards.{lane_steps}
 use Rattle.hop_rule.specs.Lanes.{holding, idle, out_holding, phase}
 use Rattle.board_api.specs.Calls.Rights.{HasOpen, IsOutside}
@@ -19,6 +18,7 @@ use Rattle.run_workers.specs.declared.poller.Poller.{Poller}
 use Rattle.run_workers.specs.declared.server.Server.{Server}
 use Rattle.run_workers.specs.Records.Growth.{Grows}
 use Rattle.run_workers.specs.Records.Storing.{StoresAreFor}
+use Rattle.run_workers.specs.Records.Words.{Mark, Note}
 use Rattle.run_workers.specs.Actors.{Each, IsForeign, IsTurnOfOne, KeepsDrain, KeepsPoller}
 use Rattle.run_workers.specs.Actors.{KeepsServer}
 use Rattle.run_workers.specs.Stages.{HasSizes, StageView}
@@ -37,15 +37,10 @@ pub record IsBetween (board : BoardView) (count : ℕ) (seat : BoardSeatView) : 
   pub others : (l : ℕ) → IsForeign board.sizes seat.number count l
       → phase l (lane_steps seat.steps) ≡ idle
 
--- The write was noted by one of these applications.
-abbrev pub IsNotedBy : List Server → SockWrite → Type 0
-IsNotedBy servers write =
-    (k : ℕ) × (v : Server) × (slice_get servers k ≡ Some v) × Contains v.writes.items write
-
 -- What a worker keeps. Its lists at the boards are explained by turns, which are all of its own
 -- queues and applications, and each of its actors has its record over these turns and over the
--- steps of its seats. What it stored at the hint words was the filter of a turn, or what one of its
--- applications noted.
+-- steps of its seats. What it stored at the hint words was the filter of a turn, the mark of a
+-- packet that one of its pollers steered, or what one of its applications noted.
 pub record IsWorking (t : StageView) (w : Worker) (s : Seats) : Type 0 where
   pub sizes : HasSizes t
   pub rx : IsBetween t.rx (length w.drains.items) s.rx
@@ -57,15 +52,17 @@ pub record IsWorking (t : StageView) (w : Worker) (s : Seats) : Type 0 where
   pub turns : List (StepBy Turn)
   pub steered : Explained s.rx.steps turns
   pub by_pollers : All (IsTurnOfOne t.rx.sizes s.rx.number (length w.pollers.items)) turns
+  pub marks : List (StepBy Mark)
+  pub marked_by : All (IsTurnOfOne t.rx.sizes s.rx.number (length w.pollers.items)) marks
   pub replies : List (StepBy Turn)
   pub replied : Explained s.tx.steps replies
   pub by_servers : All (IsTurnOfOne t.tx.sizes s.tx.number (length w.servers.items)) replies
-  pub noted : List SockWrite
-  pub noted_by : (write : SockWrite) → Contains noted write → IsNotedBy w.servers.items write
-  pub stores : StoresAreFor t.shared.given t.shared.filters turns noted s.hint.steps
-  pub pollers : Each (KeepsPoller t s first turns) w.pollers.items
+  pub noted : List (StepBy Note)
+  pub noted_by : All (IsTurnOfOne t.tx.sizes s.tx.number (length w.servers.items)) noted
+  pub stores : StoresAreFor t.shared.given t.shared.filters turns marks noted s.hint.steps
+  pub pollers : Each (KeepsPoller t s first turns marks) w.pollers.items
   pub drains : Each (KeepsDrain t.rx.sizes t.shared.given Inboxes s.rx) w.drains.items
-  pub servers : Each (KeepsServer t s rows replies) w.servers.items
+  pub servers : Each (KeepsServer t s rows replies noted) w.servers.items
   pub ships : Each (KeepsDrain t.tx.sizes t.shared.given Port s.tx) w.ships.items
 
 -- ---- what stays

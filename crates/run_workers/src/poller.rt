@@ -1,6 +1,6 @@
 //! The poller of a receive queue.
-ghost use Rattle.std.specs.Prelude.{◌≡◌, ◌<◌, ◌≤◌, ◌+◌, ◌*◌, None, Some, false, length, IfSome};
-ghost use Rattle.std.specs.Prelude.{[], IfOk, IsSome, ℕ};
+ghost use Rattle.std.specs.Prelude.{◌≡◌, ◌<◌, ◌≤◌, ◌+◌, ◌*◌, ◌==◌, None, Some, false, length};
+ghost use Rattle.std.specs.Prelude.{[], IfOk, IfSome, IsSome, not, suc, ℕ};
 ghost use Rattle.std.specs.Option.{is_some};
 ghost use Rattle.steer_base.specs.Arrivals.{filter_place};
 ghost use Rattle.steer_base.specs.Choices.{looks_at_head};
@@ -16,11 +16,13 @@ ghost use Rattle.rtrb.specs.Ring.{SameConsumer};
 ghost use Rattle.board_api.specs.Calls.Rights.{HasOpen, IsInside, IsOutside};
 ghost use Rattle.board_api.specs.Seats.{Adds};
 ghost use Rattle.steer_model.specs.Steps.Pollers.{filter_for as filter_after};
+ghost use Rattle.run_words.specs.Numbers.{word_count};
 ghost use Rattle.run_words.specs.Values.{flows_word as word_of};
 ghost use Rattle.run_words.specs.declared.hint_word.TheConstants.{FILTER_WORDS};
 ghost use Rattle.run_workers.specs.Hands.Pollers.{HasQueueSettings};
-ghost use Rattle.run_workers.specs.Hands.Pollers.{Chooses, DoesNothing, HasLanesBelow, IsPoller};
-ghost use Rattle.run_workers.specs.Hands.Pollers.{LoadsHead, TakesNone};
+ghost use Rattle.run_workers.specs.Hands.Pollers.{Chooses, DoesNothing, EmptiesHand};
+ghost use Rattle.run_workers.specs.Hands.Pollers.{FindsAnnounced, HasLanesBelow, IsPoller};
+ghost use Rattle.run_workers.specs.Hands.Pollers.{LoadsHead, LoadsQueue, TakesNone};
 ghost use Rattle.run_workers.specs.Hands.Pollers.{LooksUp};
 ghost use Rattle.run_workers.specs.Hands.Pollers.{Polls};
 ghost use Rattle.run_workers.specs.Hands.Pollers.{Puts, Steers, StoresFilter, Takes, read_steps};
@@ -33,8 +35,8 @@ use hint_words::HintSeat;
 use rps_map::rps_choice;
 use rtrb::Consumer;
 use run_words::{
-    HintWord, ReceiveSetting, Shared, cpus_in, filter_word, flows_in, flows_word, place_in,
-    socket_size_in,
+    HintWord, ReceiveSetting, STEERED, Shared, cpus_in, filter_word, flows_in, flows_word,
+    place_in, socket_size_in,
 };
 use std::alloc::Global;
 use std::sync::Wait;
@@ -73,6 +75,17 @@ pub struct Reading {
     pub socket: u64,
     /// The processors that are online.
     pub online: u64,
+}
+
+// Whether the word of a packet says that it has arrived at a receive queue.
+fn is_announced(shared: &Shared, seat: &mut HintSeat, id: PacketId) -> bool
+    requires table { seat.old.table ≡ shared.now.hints.table }
+    requires words { word_count (suc id) ≤ shared.now.hints.words }
+    requires id { id < MAX_PACKETS }
+    ensures loads { (word : ℕ) × LoadsQueue id word seat.old seat.new
+        × (result ≡ not (word == 0)) }
+{
+    shared.hints.load(seat, HintWord::Queue(id).number()) != 0
 }
 
 // Looks up the processor that is wanted for a packet with this class and hash in the socket flow
@@ -135,8 +148,9 @@ impl Poller {
     }
 
     /// Takes the next packet from the ring if the hand is empty, and steers the packet in hand in
-    /// one visit of the receive board. If the gate is closed nothing is steered, and the packet
-    /// stays in hand. Returns whether a number was taken or a packet steered.
+    /// one visit of the receive board. While the packet's queue is not announced in its word, or if
+    /// the gate is closed, nothing is steered, and the packet stays in hand. Returns whether a
+    /// number was taken or a packet steered.
     pub fn poll<R: Wait, B: Board>(
         &mut self,
         rt: &R,
@@ -147,7 +161,7 @@ impl Poller {
     ) -> bool
         requires table { seat.old.table ≡ (B.view board.now).table }
         requires hint_table { hint.old.table ≡ shared.now.hints.table }
-        requires words { FILTER_WORDS + shared.now.filters ≤ shared.now.hints.words }
+        requires words { word_count self.old.choices.room ≤ shared.now.hints.words }
         requires filters { shared.now.filters ≤ MAX_PLAN_FILTERS }
         requires outside { IsOutside seat.old.steps }
         requires open { HasOpen seat.old.steps }
@@ -165,7 +179,7 @@ impl Poller {
         ensures open { HasOpen seat.new.steps }
     {
         let took = self.take();
-        let Some(id) = self.hand else {
+        let Some(id) = self.announced(shared, hint) else {
             return took;
         };
         match board.enter(seat) {
@@ -175,6 +189,22 @@ impl Poller {
                 true
             }
             EnterAnswer::Closed { .. } => took,
+        }
+    }
+
+    // The packet in hand, if its word says that it has arrived at a receive queue.
+    fn announced(&self, shared: &Shared, seat: &mut HintSeat) -> Option<PacketId>
+        requires table { seat.old.table ≡ shared.now.hints.table }
+        requires words { word_count self.now.choices.room ≤ shared.now.hints.words }
+        requires few { self.now.choices.room ≤ MAX_PACKETS }
+        requires hand { IfSome self.now.hand (λ id. id < self.now.choices.room) }
+        ensures { FindsAnnounced self.now.hand result seat.old seat.new }
+    {
+        let id = self.hand?;
+        if is_announced(shared, seat, id) {
+            Some(id)
+        } else {
+            None
         }
     }
 
@@ -354,7 +384,8 @@ impl Poller {
         answer
     }
 
-    // Steers a packet, in a visit: chooses its processor, puts it there, and notes the choice.
+    // Steers a packet, in a visit: chooses its processor, marks the packet as steered, puts it
+    // there, and notes the choice.
     fn steer<R: Wait, B: Board>(
         &mut self,
         rt: &R,
@@ -366,13 +397,14 @@ impl Poller {
     ) -> Choice
         requires table { seat.old.table ≡ (B.view board.now).table }
         requires hint_table { hint.old.table ≡ shared.now.hints.table }
-        requires words { FILTER_WORDS + shared.now.filters ≤ shared.now.hints.words }
+        requires words { word_count (B.view board.now).sizes.room ≤ shared.now.hints.words }
         requires filters { shared.now.filters ≤ MAX_PLAN_FILTERS }
         requires inside { IsInside seat.old.steps }
         requires queue { self.old.queue < length shared.now.given.homes }
         requires settings { HasQueueSettings (B.view board.now).sizes shared.now.given }
         requires cpus { (B.view board.now).sizes.lanes ≡ shared.now.given.cpus }
         requires id { id < (B.view board.now).sizes.room }
+        requires few { (B.view board.now).sizes.room ≤ MAX_PACKETS }
         requires is { IsPoller shared.now.given.cpus self.old }
         requires room { length self.old.choices.items < self.old.choices.room }
         ensures steers { Steers shared.now.given shared.now.filters self.old.queue self.old.flows
@@ -381,15 +413,11 @@ impl Poller {
         ensures is { IsPoller shared.now.given.cpus self.new }
         ensures choices { self.new.choices
             ≡ grown self.old.choices (record { id = id; choice = result }) }
-        ensures same { self.new ≡ record self.old {
-          hand = None;
-          flows = self.new.flows;
-          table = self.new.table;
-          choices = self.new.choices;
-          accepted = self.new.accepted;
-        } }
+        ensures same { EmptiesHand self.old self.new }
     {
         let choice = self.choose(board, shared, seat, hint, id);
+        let mark = HintWord::Steered(id).number();
+        shared.hints.store(hint, mark, STEERED);
         self.put(rt, board, shared, seat, hint, Chosen { id, choice });
         self.choices.push(Chosen { id, choice });
         self.hand = None;

@@ -1,10 +1,12 @@
 //! Lemmas on what actors keep of their turns: functions without code whose contracts state them.
+ghost use Rattle.hop_delivery.specs.Orders.Turns.{Turn};
 ghost use Rattle.run_workers.specs.Records.PollingLaws.{OtherTurnsStay, PollersBegin, PollersGoOn};
 ghost use Rattle.run_workers.specs.Records.PollingLaws.{PollersStay};
 ghost use Rattle.run_workers.specs.Records.ReplyingLaws.{ArrivalsComeLate, CallsAddSteps};
 ghost use Rattle.run_workers.specs.Records.ReplyingLaws.{RepliesGoOn, ServersBegin, ServersStay};
 ghost use Rattle.run_workers.specs.Records.ReplyingLaws.{TakesGoOn};
 ghost use Rattle.run_workers.specs.Records.Storing.{ApplicationsStoreWrites};
+ghost use Rattle.run_workers.specs.Records.Words.{Mark, Note};
 
 /// Lemma: a poller that was made for a flow word and an empty ring has the record of no turns.
 pub fn pollers_begin()
@@ -17,7 +19,9 @@ pub fn pollers_begin()
 pub fn pollers_keep_their_turns()
     ensures on { PollersGoOn }
     ensures stay { PollersStay }
-    ensures others { OtherTurnsStay }
+    ensures others { OtherTurnsStay Turn }
+    ensures other_marks { OtherTurnsStay Mark }
+    ensures other_notes { OtherTurnsStay Note }
 {}
 
 /// Lemma: a new application has the record of no packets and no turns.

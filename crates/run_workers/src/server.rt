@@ -1,6 +1,6 @@
 //! An application, which takes the packets of its inbox, records its flows and replies.
 ghost use Rattle.std.specs.Prelude.{◌≡◌, ◌<◌, ◌≤◌, ◌+◌, ◌*◌, ◌==◌, None, Some, length, IfSome};
-ghost use Rattle.std.specs.Prelude.{IfOk, IsSome, [], true, ℕ};
+ghost use Rattle.std.specs.Prelude.{IfOk, IsSome, [], not, suc, true, ℕ};
 ghost use Rattle.std.specs.Option.{is_some};
 ghost use Rattle.steer_base.specs.Choices.{class_of, looks_at_head};
 ghost use Rattle.steer_base.specs.Journals.{grown, journal};
@@ -10,11 +10,12 @@ ghost use Rattle.dev_flow_table.specs.Tables.{IsClassOf, cleared, entries};
 ghost use Rattle.dev_flow_table.specs.declared.table.TheConstants.{MAX_EXACT_CLASSES};
 ghost use Rattle.board_api.specs.Calls.Rights.{HasOpen, IsInside, IsOutside};
 ghost use Rattle.steer_model.specs.State.Setup.{Setup, packet_hash};
-ghost use Rattle.run_words.specs.declared.hint_word.TheConstants.{QUEUE_WORDS};
+ghost use Rattle.run_words.specs.Numbers.{word_count};
+ghost use Rattle.run_words.specs.declared.hint_word.TheConstants.{PACKET_WORDS};
 ghost use Rattle.run_workers.specs.Hands.Pollers.{HasLanesBelow, HasQueueSettings, LoadsHead};
 ghost use Rattle.run_workers.specs.Hands.Servers.{ChoosesLane, HasFlowsBelow, HasTransmitSettings};
-ghost use Rattle.run_workers.specs.Hands.Servers.{IsServer, LooksInVain, MapsRead, Notes, Peeks};
-ghost use Rattle.run_workers.specs.Hands.Servers.{PutsReply};
+ghost use Rattle.run_workers.specs.Hands.Servers.{IsServer, LoadsMark, LooksInVain, MapsRead};
+ghost use Rattle.run_workers.specs.Hands.Servers.{Notes, Peeks, PutsReply};
 ghost use Rattle.run_workers.specs.Hands.Servers.{Queued};
 ghost use Rattle.run_workers.specs.Hands.Servers.{ReadsMap, RepliesOrKeeps, Sends, Stands};
 ghost use Rattle.run_workers.specs.Hands.Servers.{TakesOrLeaves};
@@ -62,7 +63,7 @@ pub struct Server {
 // The processor on which an application runs: that of its word, or its home.
 fn stand(shared: &Shared, seat: &mut HintSeat, app: u8, home: Cpu) -> Cpu
     requires table { seat.old.table ≡ shared.now.hints.table }
-    requires words { QUEUE_WORDS ≤ shared.now.hints.words }
+    requires words { PACKET_WORDS ≤ shared.now.hints.words }
     requires app { app < 32 }
     ensures { Stands shared.now.given.cpus app home seat.old seat.new result }
 {
@@ -111,8 +112,8 @@ impl Server {
 
     /// Takes the next packet of the inbox, if the hand is empty, and records its flow in one visit
     /// of the receive board: the application's processor, in the entry of the packet's hash. At a
-    /// closed gate, or while another seat holds the inbox, the packet is left there. Returns
-    /// whether a packet was taken.
+    /// closed gate, while another seat holds the inbox, or while the packet is not marked as
+    /// steered, it is left there. Returns whether a packet was taken.
     pub fn take<B: Board>(
         &mut self,
         board: &B,
@@ -122,7 +123,7 @@ impl Server {
     ) -> bool
         requires table { seat.old.table ≡ (B.view board.now).table }
         requires hint_table { hint.old.table ≡ shared.now.hints.table }
-        requires words { QUEUE_WORDS ≤ shared.now.hints.words }
+        requires words { word_count self.old.sent.room ≤ shared.now.hints.words }
         requires outside { IsOutside seat.old.steps }
         requires open { HasOpen seat.old.steps }
         requires app { self.old.app < (B.view board.now).sizes.outs }
@@ -135,15 +136,15 @@ impl Server {
         ensures outside { IsOutside seat.new.steps }
         ensures open { HasOpen seat.new.steps }
     {
-        if self.hand.is_some() {
-            return false;
-        }
-        if self.sent.len() >= self.sent.room() {
+        if self.hand.is_some() || self.sent.len() >= self.sent.room() {
             return false;
         }
         let Some(id) = self.peek(board, seat) else {
             return false;
         };
+        if !is_steered(shared, hint, id) {
+            return false;
+        }
         match board.enter(seat) {
             EnterAnswer::Ok => {
                 self.record(board, shared, seat, hint, id);
@@ -170,7 +171,7 @@ impl Server {
     ) -> bool
         requires table { seat.old.table ≡ (B.view board.now).table }
         requires hint_table { hint.old.table ≡ shared.now.hints.table }
-        requires words { QUEUE_WORDS + self.old.sent.room ≤ shared.now.hints.words }
+        requires words { word_count self.old.sent.room ≤ shared.now.hints.words }
         requires outside { IsOutside seat.old.steps }
         requires open { HasOpen seat.old.steps }
         requires settings { HasTransmitSettings (B.view board.now).sizes shared.now.given }
@@ -231,7 +232,7 @@ impl Server {
     )
         requires table { seat.old.table ≡ (B.view board.now).table }
         requires hint_table { hint.old.table ≡ shared.now.hints.table }
-        requires words { QUEUE_WORDS ≤ shared.now.hints.words }
+        requires words { PACKET_WORDS ≤ shared.now.hints.words }
         requires inside { IsInside seat.old.steps }
         requires settings { HasQueueSettings (B.view board.now).sizes shared.now.given }
         requires app { self.old.app < 32 }
@@ -251,7 +252,7 @@ impl Server {
     // Writes the application's processor to an entry of the socket flow table, if there is one.
     fn write(&mut self, shared: &Shared, seat: &mut HintSeat, entry: Option<u32>)
         requires table { seat.old.table ≡ shared.now.hints.table }
-        requires words { QUEUE_WORDS ≤ shared.now.hints.words }
+        requires words { PACKET_WORDS ≤ shared.now.hints.words }
         requires entry { IfSome entry (λ e. e < MAX_SOCKET_SIZE) }
         requires app { self.old.app < 32 }
         requires room { length self.old.writes.items < self.old.writes.room }
@@ -401,10 +402,21 @@ impl Server {
     }
 }
 
+// Whether the word of a packet says that its poller has steered it.
+fn is_steered(shared: &Shared, seat: &mut HintSeat, id: PacketId) -> bool
+    requires table { seat.old.table ≡ shared.now.hints.table }
+    requires words { word_count (suc id) ≤ shared.now.hints.words }
+    requires id { id < MAX_PACKETS }
+    ensures loads { (word : ℕ) × LoadsMark id word seat.old seat.new
+        × (result ≡ not (word == 0)) }
+{
+    shared.hints.load(seat, HintWord::Steered(id).number()) != 0
+}
+
 // The receive queue of a packet: by its word, or else by the arrivals.
 fn queue_of(shared: &Shared, seat: &mut HintSeat, late: &[Arrival], id: PacketId) -> Option<RxQueue>
     requires table { seat.old.table ≡ shared.now.hints.table }
-    requires words { QUEUE_WORDS + id < shared.now.hints.words }
+    requires words { word_count (suc id) ≤ shared.now.hints.words }
     requires id { id < MAX_PACKETS }
     ensures { Queued (length shared.now.given.homes) id late.now seat.old seat.new result }
 {

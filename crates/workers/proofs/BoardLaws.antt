@@ -13,6 +13,7 @@ use Rattle.xps_map.specs.Maps.{no_cpus}
 use Rattle.steer_model.specs.Good.Inputs.{Input}
 use Rattle.steer_model.specs.State.Start.{initial_settings}
 use Rattle.run_words.specs.First.{FirstValuesStand, first_receive_settings}
+use Rattle.run_words.specs.Numbers.{word_count}
 use Rattle.run_words.specs.First.{first_transmit_settings}
 use Rattle.run_words.specs.declared.setting.ReceiveSetting.TheVariants as receive
 use Rattle.run_words.specs.declared.setting.TransmitSetting.TheVariants as transmit
@@ -187,5 +188,5 @@ boards_have_settings plan packets cut s is =
       };
       rooms = ap (λ b. b.room) is.rx ∙ ap (λ g. length g.packets) (sym is.given);
       reply_rooms = ap (λ b. b.room) is.tx ∙ ap (λ g. length g.packets) (sym is.given);
-      words = let n = is.words in omega (arith, n);
+      words = is.words ∙ ap (λ g. word_count (length g.packets)) (sym is.given);
     }

@@ -171,15 +171,15 @@ module _ (i : Input) (s : Run) (left : Left) (over : IsOver i s)
         ∙ list-at-map (λ (v : Poller). v.choices.items)
         (all_played crew pollers_of (length i.plan.queues)) q p.actor poller-at
 
-    keeps : (first : ℕ → ℕ) × (turns : List _)
-        × KeepsPoller (stage_of s) p.by.seats first turns (q / length crew) p.actor
+    keeps : (first : ℕ → ℕ) × (turns : List _) × (marks : List _)
+        × KeepsPoller (stage_of s) p.by.seats first turns marks (q / length crew) p.actor
     keeps =
         let work = over.back.work.work (q % length crew) p.by p.worker in
-        (work.first, work.turns, work.pollers (q / length crew) p.actor p.is)
+        (work.first, work.turns, work.marks, work.pollers (q / length crew) p.actor p.is)
 
     queue-is : p.actor.queue ≡ q
     queue-is =
-        keeps.2.own
+        keeps.3.own
         ∙ (ap (λ n. actor_at s.stage.rx.sizes n (q / length crew))
         (over.back.work.rx_numbers (q % length crew) p.by p.worker)
         ∙ actor-back s.stage.rx.sizes (length crew) q over.back.work.rx_count over.back.work.some)
@@ -373,13 +373,13 @@ module _ (i : Input) (s : Run) (left : Left) (over : IsOver i s)
         ap (arrivals_at s.stage.late.items) queue
         ∙ (sym (over.back.wire.sent_are q ring.0 less) ∙ sym came.1) in
         let room : p.actor.choices.room ≡ length i.packets =
-        k.2.room ∙ ap (λ (z : BoardSizes). z.room) rx-sizes in
+        k.3.room ∙ ap (λ (z : BoardSizes). z.room) rx-sizes in
         let few =
         subst (λ n. All (λ x. x < n) (arrivals_at s.stage.late.items p.actor.queue)) (sym room)
         (arrived-below (length i.packets) s.stage.late.items p.actor.queue over.back.wire.all) in
         let front =
-        laws.fronts s.stage.shared.given (k.0 p.actor.queue) s.stage.rx.sizes.start p.actor k.1
-        p.by.seats.hint.steps s.stage.late.items came.0 k.2.keeps
+        laws.fronts s.stage.shared.given (k.0 p.actor.queue) s.stage.rx.sizes.start p.actor k.1 k.2
+        p.by.seats.hint.steps s.stage.late.items came.0 k.3.keeps
         (poller-hand crew over.free (q % length crew) p.by p.worker (q / length crew) p.actor p.is)
         all few in
         subst (IsFront (list_at h.choices q)) (sym is.arrivals)

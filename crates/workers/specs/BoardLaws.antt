@@ -1,12 +1,12 @@
 -- Laws of the boards that a plan begins with.
-use Rattle.std.specs.Prelude.{◌≡◌, ℕ, ◌≤◌, List, Option, length}
+use Rattle.std.specs.Prelude.{◌≡◌, ℕ, List, Option, length}
 use Rattle.steer_base.specs.declared.packet.Packet.{Packet}
 use Rattle.history.specs.Lists.{list_at}
 use Rattle.history.specs.declared.history.History.{History}
 use Rattle.board_api.specs.declared.lists.BoardLists.{BoardLists}
 use Rattle.plan_reader.specs.declared.plan.Plan.{Plan}
 use Rattle.steer_model.specs.Good.Inputs.{Input}
-use Rattle.run_words.specs.declared.hint_word.TheConstants.{QUEUE_WORDS}
+use Rattle.run_words.specs.Numbers.{word_count}
 use Rattle.run_workers.specs.Hands.Pollers.{HasQueueSettings}
 use Rattle.run_workers.specs.Hands.Servers.{HasTransmitSettings}
 use Rattle.run_coupling.specs.Coupling.Boards.{IsReceiveBoard, IsTransmitBoard}
@@ -31,7 +31,7 @@ pub record HasItsSettings (s : RunBoards) : Type 0 where
   pub maps : HasTransmitSettings s.tx.sizes s.shared.given
   pub rooms : s.rx.sizes.room ≡ length s.shared.given.packets
   pub reply_rooms : s.tx.sizes.room ≡ length s.shared.given.packets
-  pub words : QUEUE_WORDS ≤ s.shared.hints.words
+  pub words : s.shared.hints.words ≡ word_count (length s.shared.given.packets)
 
 -- The boards and the words of each plan have these.
 abbrev pub BoardsHaveSettings : Type 0

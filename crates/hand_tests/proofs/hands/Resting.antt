@@ -1,6 +1,6 @@
 -- Seats that rest, between calls.
-use Rattle.std.proofs.Common.{◌≡◌, ◌⊎◌, inl, inr, ℕ, Bool, true, false, ◌==◌, List, [], ◌∷◌, ◌++◌}
-use Rattle.std.proofs.Common.{None, Some, All, refl, sym, ap, subst, ◌∙◌, slice_index_or}
+use Rattle.std.proofs.Common.{◌≡◌, ◌≢◌, ◌⊎◌, inl, inr, ℕ, Bool, true, false, ◌==◌, List, [], ◌∷◌}
+use Rattle.std.proofs.Common.{◌++◌, None, Some, All, refl, sym, ap, subst, ◌∙◌, slice_index_or}
 use Rattle.std.proofs.lemmas.Bool.{eqb-true}
 use Rattle.std.proofs.lemmas.List.Elements.{All-append, All-cons, All-nil}
 use Rattle.linearization.specs.Seats.{SeatView}
@@ -27,7 +27,7 @@ use Rattle.hop_delivery.specs.Orders.Turns.{visit_with}
 use Rattle.steer_model.specs.State.Setup.{Setup}
 use Rattle.run_workers.specs.Hands.Deltas.{Serves, no_lane, this_lane}
 use Rattle.run_workers.specs.Hands.Drains.{IsDrain, hand_phase}
-use Rattle.run_workers.specs.Hands.Pollers.{Polls, SteersHand, Waits}
+use Rattle.run_workers.specs.Hands.Pollers.{FindsClosed, LoadsQueue, Polls, SteersHand, Waits}
 use Rattle.run_workers.specs.declared.drain.Drain.{Drain}
 use Rattle.run_workers.specs.declared.poller.Poller.{Poller}
 use Rattle.run_workers.proofs.Hands.DeltaLemmas.{serves_back, serves_missed, serves_out_back}
@@ -81,11 +81,16 @@ module _ (own : ℕ → Bool) (board : BoardView) (number : ℕ) (old new : Seat
       → IsOutside new.steps → HasOpen new.steps → RestsBut own board number new
   polls_rest given filters p q hint_old hint_new r polls outside unclosed = by_case polls.steers
     where
-      by_steps : ((polls.mid.hand ≡ None) × (new ≡ old))
-          ⊎ ((word : ℕ) × Adds (Gate Left ∷ Gate (Turned word) ∷ []) old new)
+      by_steps : ((polls.mid.hand ≡ None) × (hint_new ≡ hint_old) × (new ≡ old))
+          ⊎ ((id : ℕ) × (polls.mid.hand ≡ Some id) × LoadsQueue id 0 hint_old hint_new
+          × (new ≡ old))
+          ⊎ ((id : ℕ) × (word : ℕ) × (polls.mid.hand ≡ Some id)
+          × LoadsQueue id word hint_old hint_new × (word ≢ 0) × FindsClosed old new)
           → RestsBut own board number new
-      by_steps (inl (none, same)) = subst (RestsBut own board number) (sym same) r
-      by_steps (inr (word, adds)) =
+      by_steps (inl (none, hint, same)) = subst (RestsBut own board number) (sym same) r
+      by_steps (inr (inl (id, hand, loads, same))) =
+          subst (RestsBut own board number) (sym same) r
+      by_steps (inr (inr (id, found, hand, loads, set, (word, adds)))) =
           rests_on (Gate Left ∷ Gate (Turned word) ∷ []) r adds outside unclosed r.lanes r.outs
           (λ l other. refl)
 

@@ -1,6 +1,7 @@
 -- An office after each call.
-use Rattle.std.proofs.Common.{◌≡◌, ◌⊎◌, inl, inr, ℕ, ◌+◌, ◌*◌, ◌<◌, ◌≤◌, Bool, true, false}
-use Rattle.std.proofs.Common.{List, [], ◌∷◌, None, refl, sym, ap, subst, ◌∙◌, length, arith}
+use Rattle.std.proofs.Common.{◌≡◌, ◌≢◌, ◌⊎◌, inl, inr, ℕ, ◌+◌, ◌*◌, ◌<◌, ◌≤◌, Bool, true}
+use Rattle.std.proofs.Common.{false, List, [], ◌∷◌, None, Some, refl, sym, ap, subst, ◌∙◌}
+use Rattle.std.proofs.Common.{length, arith}
 use Rattle.linearization.specs.Seats.{SeatView}
 use Rattle.history.specs.declared.arrival.Arrival.{Arrival}
 use Rattle.hint_words.specs.declared.step.HintStep.{HintStep}
@@ -19,10 +20,11 @@ use Rattle.board_api.specs.declared.held_lane.HeldLane.TheVariants as held
 use Rattle.board_api.specs.declared.held_lane.LaneId.TheVariants as id
 use Rattle.hop_delivery.specs.Orders.Turns.{visit_with}
 use Rattle.steer_model.specs.State.Setup.{Setup}
-use Rattle.run_words.specs.declared.hint_word.TheConstants.{QUEUE_WORDS}
+use Rattle.run_words.specs.Numbers.{word_count}
 use Rattle.run_workers.specs.Hands.Deltas.{no_lane}
 use Rattle.run_controller.specs.Gates.{ClosesEmpty, SetsAndOpens}
-use Rattle.run_workers.specs.Hands.Servers.{BacksOut, IsServer, RepliesOrKeeps, TakesOrLeaves}
+use Rattle.run_workers.specs.Hands.Servers.{BacksOut, HasNoNext, IsServer, LoadsMark, Peeks}
+use Rattle.run_workers.specs.Hands.Servers.{RepliesOrKeeps, TakesOrLeaves}
 use Rattle.run_workers.specs.declared.server.Server.{Server}
 use Rattle.run_words.specs.declared.shared.Shared.{Shared}
 use Rattle.run_workers.proofs.Hands.ServerLaws.{applications_stay}
@@ -67,9 +69,19 @@ takes_rest board number about given s t true old new hint_old hint_new r x =
     (ap (λ (s : Seat). visit (gate_steps s.steps)) x.records.adds)
     (ap (λ (s : Seat). closed (gate_steps s.steps)) x.records.adds ∙ mid.gate)
     mid.lanes mid.outs (λ l other. refl)
-takes_rest board number about given s t false old new hint_old hint_new r x =
-    gate_rests board number x.mid new
-    (serves_rest no_lane board number old x.mid r x.looks) x.gate
+takes_rest board number about given s t false old new hint_old hint_new r x = by_gate x.gate
+  where
+    here : Rests board number x.mid
+    here = serves_rest no_lane board number old x.mid r x.looks
+
+    by_gate : (HasNoNext about s old x.mid × (hint_new ≡ hint_old) × (new ≡ x.mid))
+        ⊎ ((id : ℕ) × (word : ℕ)
+        × Peeks about s.app (length s.sent.items) (Some id) old x.mid
+        × LoadsMark id word hint_old hint_new
+        × (((word ≡ 0) × (new ≡ x.mid)) ⊎ ((word ≢ 0) × BacksOut x.mid new)))
+        → Rests board number new
+    by_gate (inl none) = subst (Rests board number) (sym none.2) here
+    by_gate (inr (id, word, peeks, loads, gate)) = gate_rests board number x.mid new here gate
 
 replies_rest : (board : BoardView) (number : ℕ) (given : Setup) (late : List Arrival)
     (s t : Server) (sent : Bool) (old new : Seat) (hint_old hint_new : Hint)
@@ -147,7 +159,7 @@ module _ (shared : Shared) (hint : Hint) (s : Server) (rb : BoardView) (rs rc : 
   clerk_moves hint_new t table app room is =
       record {
         hint_table = table ∙ x.clerk.hint_table;
-        words = subst (λ n. QUEUE_WORDS + n ≤ shared.hints.words) (sym room) x.clerk.words;
+        words = subst (λ n. word_count n ≤ shared.hints.words) (sym room) x.clerk.words;
         app = subst (λ n. n < rb.sizes.outs) (sym app) x.clerk.app;
         settings = x.clerk.settings;
         room = room ∙ x.clerk.room;

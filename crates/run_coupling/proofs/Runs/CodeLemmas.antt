@@ -21,6 +21,7 @@ shared = record {
   stand = λ app. hint_number (word.Stand app);
   filter = λ place. hint_number (word.Filter place);
   packet = λ id. hint_number (word.Queue id);
+  steered = λ id. hint_number (word.Steered id);
   place = place_word;
   filter_value = filter_word;
   place_is_set = λ n e. absurd (omega arith);
@@ -34,6 +35,7 @@ code-is (word.Stand app) = refl
 code-is (word.Filter place) = refl
 code-is word.Done = refl
 code-is (word.Queue id) = refl
+code-is (word.Steered id) = refl
 
 pub are-shared : AreShared shared
 are-shared =
@@ -43,6 +45,7 @@ are-shared =
       stand = λ app. refl;
       filter = λ place. refl;
       packet = λ id. refl;
+      steered = λ id. refl;
       place = λ place. refl;
       filter_value = λ f. refl;
     }

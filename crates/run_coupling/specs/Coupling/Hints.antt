@@ -45,7 +45,8 @@ pub record HintCodes : Type 0 where
   pub entry : ℕ → ℕ  -- of an entry of the redirection table
   pub stand : ℕ → ℕ  -- of an application
   pub filter : ℕ → ℕ  -- of a filter
-  pub packet : ℕ → ℕ  -- of a packet
+  pub packet : ℕ → ℕ  -- of a packet's receive queue
+  pub steered : ℕ → ℕ  -- of whether a packet is steered
   pub place : ℕ → ℕ  -- the value for a processor or a queue
   pub filter_value : Filter → ℕ  -- the value for a filter
   pub place_is_set : (n : ℕ) → place n ≢ 0
@@ -98,7 +99,8 @@ LookedUp c cpus seat (Some entry) step want =
     × (nth_step seat.steps n ≡ Some (Load (c.socket entry) value)) × Says c cpus value want
 
 -- Each turn of a receive queue looked up its want, with steps of one seat that come in the order of
--- the turns.
+-- the turns. It also has the step of the seat with which its packet was marked as steered; a look
+-- of this turn or of an earlier one came before it.
 pub record HasWants (i : Input) (c : HintCodes) (seats : List (SeatView HintStep)) (t : Execution)
     (queue : ℕ) (seen : (turn word : ℕ) → ℕ) : Type 0 where
   pub seat : SeatView HintStep
@@ -109,6 +111,9 @@ pub record HasWants (i : Input) (c : HintCodes) (seats : List (SeatView HintStep
       (entry_of (seen k (socket_word (receive_queues i))) u.chosen.choice.class
       (packet_hash (setup_in i) u.chosen.id)) (step k) u.chosen.choice.want
   pub order : (j k m n : ℕ) → j < k → step j ≡ Some m → step k ≡ Some n → m < n
+  pub mark : (turn : ℕ) → ℕ
+  pub before : (j k m : ℕ) (u : Turn) → j ≤ k → nth_step (turns_of t queue) k ≡ Some u
+      → step j ≡ Some m → m < mark k
 
 -- ---- stores and loads
 

@@ -21,6 +21,7 @@ use Rattle.run_coupling.specs.Coupling.Deliveries.{AllDeliverTo}
 use Rattle.run_coupling.specs.Coupling.EmptiedLanes.{AllFindLanes}
 use Rattle.run_coupling.specs.Coupling.Ends.{AllArrived, TotalsReplied, TotalsRetired}
 use Rattle.run_coupling.specs.Coupling.Hints.{HintCodes, LoadsAreUsed, StoresAreMeant}
+use Rattle.run_coupling.specs.Coupling.Marks.{KeepsMarks}
 use Rattle.run_coupling.specs.Coupling.Inputs.{FlowsHaveOneHash, receive_queues}
 use Rattle.run_coupling.specs.Coupling.Queues.{KeepsQueues}
 use Rattle.run_coupling.specs.Coupling.Tries.{KeepsReceiveTries, KeepsTransmitTries, Try}
@@ -89,3 +90,4 @@ pub record IsRun (i : Input) (h : History) : Type 0 where
   pub hints_ended : HaveEnded hint_seats
   pub meant : StoresAreMeant i h codes hint_seats queues
   pub used : LoadsAreUsed i h codes hint_seats (own_in rx_seats) queues queues_seen
+  pub marks : KeepsMarks i h codes hint_seats queues queues_seen used.wants

@@ -15,6 +15,7 @@ pub record AreShared (c : HintCodes) : Type 0 where
   pub stand : (app : ℕ) → c.stand app ≡ hint_number (word.Stand app)
   pub filter : (place : ℕ) → c.filter place ≡ hint_number (word.Filter place)
   pub packet : (id : ℕ) → c.packet id ≡ hint_number (word.Queue id)
+  pub steered : (id : ℕ) → c.steered id ≡ hint_number (word.Steered id)
   pub place : (place : ℕ) → c.place place ≡ place_word place
   pub filter_value : (f : Filter) → c.filter_value f ≡ filter_word f
 
@@ -26,6 +27,7 @@ code_of c (word.Stand app) = c.stand app
 code_of c (word.Filter place) = c.filter place
 code_of c word.Done = hint_number word.Done
 code_of c (word.Queue id) = c.packet id
+code_of c (word.Steered id) = c.steered id
 
 -- By its number and value a store is of one word, and for one processor, queue or filter. What a
 -- load means, it has the code of.

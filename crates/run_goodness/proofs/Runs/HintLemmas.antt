@@ -70,7 +70,7 @@ use Rattle.run_coupling.proofs.Tries.TryLemmas.{first-tries}
 use Rattle.hop_delivery.proofs.Closings.PutPlaceLemmas.{turns_put_once}
 
 -- a value that was loaded and is not 0 was stored
-loaded-stored : (seats : List (SeatView HintStep)) (word value : ℕ) → LoadsAreStored seats
+pub loaded-stored : (seats : List (SeatView HintStep)) (word value : ℕ) → LoadsAreStored seats
     → WasLoaded seats word value → value ≢ 0 → IsStoredBy seats word value
 loaded-stored seats word value all w set =
     All-contains (ComesFrom seats) w.seat.steps (Load word value)
@@ -79,7 +79,7 @@ loaded-stored seats word value all w set =
     w.loads set
 
 -- a step at a place is one of the steps
-nth-among : (steps : List HintStep) (n : ℕ) (d : HintStep) → nth_step steps n ≡ Some d
+pub nth-among : (steps : List HintStep) (n : ℕ) (d : HintStep) → nth_step steps n ≡ Some d
     → Contains steps d
 nth-among [] n d at = none-some d at
 nth-among (e ∷ es) n d at = elim (nth-first e es n d at) [
@@ -105,7 +105,7 @@ below-modulus : (n : ℕ) → n % 128 < 128
 below-modulus n = omega arith
 
 -- a class is below the count
-class-below : (count : ℕ) (hash : Option ℕ) (k : ℕ) → class_of count hash ≡ Some k → k < count
+pub class-below : (count : ℕ) (hash : Option ℕ) (k : ℕ) → class_of count hash ≡ Some k → k < count
 class-below count None k is = none-some k is
 class-below zero (Some hash) k is = none-some k is
 class-below (suc n) (Some hash) k is =
@@ -124,19 +124,19 @@ module _ (i : Input) (h : History) (run : IsRun i h) where
   abbrev rx_own : ℕ → List BoardStep
   rx_own = own_in run.rx_seats
 
-  stored : LoadsAreStored run.hint_seats
+  pub stored : LoadsAreStored run.hint_seats
   stored =
       loads_are_stored run.hint_seats run.hints_ended.order run.hints_ended.lawful
       run.hints_ended.parts
 
-  stored-place : (word place : ℕ) → WasLoaded run.hint_seats word (run.codes.place place)
+  pub stored-place : (word place : ℕ) → WasLoaded run.hint_seats word (run.codes.place place)
       → IsStoredBy run.hint_seats word (run.codes.place place)
   stored-place word place w =
       loaded-stored run.hint_seats word (run.codes.place place) stored w
       (run.codes.place_is_set place)
 
   -- a place that a word said was stored there
-  said-stored : (word count place : ℕ)
+  pub said-stored : (word count place : ℕ)
       → WordSaid i h run.codes run.hint_seats word count (Some place)
       → IsStoredBy run.hint_seats word (run.codes.place place)
   said-stored word count place (value, was, says) =
@@ -144,7 +144,7 @@ module _ (i : Input) (h : History) (run : IsRun i h) where
 
   -- ---- 2: queues
 
-  filter-from : (hash place queue : ℕ) → WasFiltered i run.queues place queue
+  pub filter-from : (hash place queue : ℕ) → WasFiltered i run.queues place queue
       → filter_place i.plan.filters (Some hash) ≡ Some place → FilterFrom i h hash queue
   filter-from hash place queue w here =
       let u : Turn = w.turn in
@@ -213,14 +213,14 @@ module _ (i : Input) (h : History) (run : IsRun i h) where
   abbrev after : ℕ → Settings
   after n = settings_by (initial_settings i.plan) (tries_up_to at_receive n run.tries)
 
-  settings-after : (n : ℕ)
+  pub settings-after : (n : ℕ)
       → settings_at i h (length (tries_up_to at_receive n run.tries)) ≡ after n
   settings-after n =
       settings_of_opening i h run.rx rx_own run.rx_lists run.tries run.received.board
       run.received.tries_are (queues.all_name_queues i run.tries (runs.within i h run)) n
 
   -- a want that is set was loaded at an entry
-  want-loaded : (size : ℕ) (class hash : Option ℕ) (seat : SeatView HintStep)
+  pub want-loaded : (size : ℕ) (class hash : Option ℕ) (seat : SeatView HintStep)
       (step wanted : Option ℕ) (want : ℕ) → Contains run.hint_seats seat
       → LookedUp run.codes i.plan.cpus seat (entry_of size class hash) step wanted
       → wanted ≡ Some want → size ≤ MAX_SOCKET_SIZE
@@ -251,7 +251,7 @@ module _ (i : Input) (h : History) (run : IsRun i h) where
         },
       )
 
-  want-written : (q k want : ℕ) (u : Turn) → q < length i.plan.queues
+  pub want-written : (q k want : ℕ) (u : Turn) → q < length i.plan.queues
       → nth_step (turns_of run.queues q) k ≡ Some u
       → u.chosen.choice.want ≡ Some want
       → (place : ℕ)
@@ -288,7 +288,7 @@ module _ (i : Input) (h : History) (run : IsRun i h) where
       )
 
   -- a queue with a choice is one of the plan
-  is-queue : (q k : ℕ) → k < length (list_at h.choices q) → q < length i.plan.queues
+  pub is-queue : (q k : ℕ) → k < length (list_at h.choices q) → q < length i.plan.queues
   is-queue q k less = elim (cases_lt q (length i.plan.queues)) [
     | inl within ↦ within
     | inr past ↦ (let n = run.received.queues.choice_lists in
@@ -323,7 +323,7 @@ module _ (i : Input) (h : History) (run : IsRun i h) where
   stood-at a cpu less (inr (unset, plan)) = inl plan
 
   -- a size that was read in a visit is that of its number
-  size-is : (size : ℕ) (w : WasRead i h run.codes run.hint_seats rx_own size)
+  pub size-is : (size : ℕ) (w : WasRead i h run.codes run.hint_seats rx_own size)
       → size ≡ (after (visit_before (rx_own w.seat) w.step)).sock
   size-is size w =
       let n : ℕ = visit_before (rx_own w.seat) w.step in
@@ -335,7 +335,7 @@ module _ (i : Input) (h : History) (run : IsRun i h) where
       w.does w.in_visit
       ∙ words.sock
 
-  size-few : (size : ℕ) → WasRead i h run.codes run.hint_seats rx_own size
+  pub size-few : (size : ℕ) → WasRead i h run.codes run.hint_seats rx_own size
       → size ≤ MAX_SOCKET_SIZE
   size-few size w =
       let n : ℕ = visit_before (rx_own w.seat) w.step in
@@ -345,7 +345,7 @@ module _ (i : Input) (h : History) (run : IsRun i h) where
       run.input.arrived run.received.queues n in
       subst (λ m. m ≤ MAX_SOCKET_SIZE) (sym (size-is size w)) fit.sock
 
-  size-read : (size : ℕ) → WasRead i h run.codes run.hint_seats rx_own size → IsSize i h size
+  pub size-read : (size : ℕ) → WasRead i h run.codes run.hint_seats rx_own size → IsSize i h size
   size-read size w =
       let n : ℕ = visit_before (rx_own w.seat) w.step in
       let f = first-tries run.rx (received_sets (receive_queues i)) at_receive n run.tries

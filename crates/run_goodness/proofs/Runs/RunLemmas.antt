@@ -77,13 +77,13 @@ module _ (i : Input) (h : History) (run : IsRun i h) where
       receives.turns i h run.rx rx_own run.rx_lists rx-facts run.tries run.queues run.queues_seen
       run.input run.commands run.received
 
-  rx-once : (p q j k x : ℕ) → slice_get (run.queues.arrivals p) j ≡ Some x
+  pub rx-once : (p q j k x : ℕ) → slice_get (run.queues.arrivals p) j ≡ Some x
       → slice_get (run.queues.arrivals q) k ≡ Some x → (p ≡ q) × (j ≡ k)
   rx-once =
       receives.once i h run.rx rx_own run.rx_lists rx-facts run.tries run.queues run.queues_seen
       run.input run.commands run.received
 
-  rx-known : (p j x : ℕ) → slice_get (run.queues.arrivals p) j ≡ Some x → x < length i.packets
+  pub rx-known : (p j x : ℕ) → slice_get (run.queues.arrivals p) j ≡ Some x → x < length i.packets
   rx-known =
       receives.known i h run.rx rx_own run.rx_lists rx-facts run.tries run.queues run.queues_seen
       run.input run.commands run.received
@@ -207,7 +207,7 @@ module _ (i : Input) (h : History) (run : IsRun i h) where
       tx-facts.turn tx-facts.stand tx-facts.places tx-retired
 
   -- a packet that arrived was put
-  arrival-ends : (p j x : ℕ) → slice_get (run.queues.arrivals p) j ≡ Some x
+  pub arrival-ends : (p j x : ℕ) → slice_get (run.queues.arrivals p) j ≡ Some x
       → ((a : ℕ) × (is_in x (list_at h.inboxes a) ≡ true))
       ⊎ ((c : ℕ) × (is_in x (drop_ids (lane_at h.lanes c)) ≡ true))
   arrival-ends p j x at =

@@ -14,13 +14,12 @@ use Rattle.steer_base.specs.declared.command.Refused.TheVariants as refused
 use Rattle.history.specs.declared.commanded.Commanded.{Commanded}
 use Rattle.history.specs.declared.history.History.{History}
 use Rattle.history.specs.declared.lane_list.LaneList.{LaneList}
-use Rattle.hop_rule.specs.Moments.{Did, IsStep, moment_of, nth_step}
+use Rattle.hop_rule.specs.Moments.{moment_of, nth_step}
 use Rattle.hop_rule.specs.Owns.{own_of}
 use Rattle.hop_rule.specs.Sizes.{closer}
 use Rattle.hop_rule.specs.declared.sizes.BoardSizes.{BoardSizes}
 use Rattle.hop_rule.specs.declared.step.BoardStep.{BoardStep}
 use Rattle.hop_rule.specs.declared.step.BoardStep.TheVariants.{Counted, Gate, Weighed}
-use Rattle.hop_rule.specs.declared.step.GateStep.{GateStep}
 use Rattle.hop_rule.specs.declared.step.GateStep.TheVariants.{NotShut, Opened, Shut}
 use Rattle.hop_rule.proofs.Closes.{busy_lanes_have_packets, found_visits_are_open}
 use Rattle.hop_rule.proofs.Moments.{nth-first, nth-inside, nth-old}
@@ -36,7 +35,6 @@ use Rattle.steer_model.specs.Good.Inputs.{Input}
 use Rattle.steer_model.specs.Steps.Commands.{refused_answer}
 use Rattle.run_coupling.specs.Coupling.Answers.{AllAnswered, FindsOneBusy, FindsVisits}
 use Rattle.run_coupling.specs.Coupling.Answers.{IsAnswered, IsBusy, IsBusyAt}
-use Rattle.run_coupling.specs.Coupling.Runs.{IsRun}
 use Rattle.run_coupling.specs.Coupling.Tries.{Try, at_receive, at_transmit, steps_of_tries}
 use Rattle.run_coupling.proofs.Tries.EmptiedLemmas.{looking-append}
 use Rattle.run_goodness.specs.Laws.BusyAnswers.{BusyAnswersAreTrue, WasBusy}

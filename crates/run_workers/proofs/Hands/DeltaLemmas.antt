@@ -31,10 +31,6 @@ none_either true x y e = refl
 none_either false x y e = e
 
 -- what was left or done, without the reasons
-pub without_reason : {A B C : Type 0} → (A × B) ⊎ C → B ⊎ C
-without_reason (inl both) = inl both.1
-without_reason (inr out) = inr out
-
 pub without_reasons : {A B C E : Type 0} → (A × B) ⊎ (C × E) → B ⊎ E
 without_reasons (inl both) = inl both.1
 without_reasons (inr both) = inr both.1

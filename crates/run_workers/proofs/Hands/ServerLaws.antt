@@ -27,6 +27,7 @@ use Rattle.run_workers.specs.declared.drain.Drain.{Drain}
 use Rattle.run_workers.specs.declared.server.Server.{Server}
 use Rattle.run_workers.proofs.Hands.DrainLemmas.{stays_drain}
 use Rattle.run_workers.proofs.Hands.DeltaLemmas.{without_reasons}
+use Rattle.run_workers.proofs.Hands.WaitLemmas.{leaves_at_board, leaves_there}
 
 abbrev Hint : Type 0
 Hint = SeatView HintStep
@@ -87,10 +88,13 @@ calm_record word size q old new adds =
 
 module _ (about : BoardSizes) (given : Setup) (s t : Server) (old new : BoardSeatView)
     (hint_old hint_new : Hint) where
+  left_calm : (x : LeavesInbox about s t old new hint_old hint_new) → Calm x.mid new
+  left_calm x = calm_gate x.mid new (leaves_at_board about s t old new hint_old hint_new x)
+
   left_drain : (d : Drain) → LeavesInbox about s t old new hint_old hint_new
       → IsDrain given d old.steps → IsDrain given d new.steps
   left_drain d x is =
-      calm_drain given d x.mid new (calm_gate x.mid new (without_reasons x.gate))
+      calm_drain given d x.mid new (left_calm x)
       (calm_drain given d old x.mid (record {
         added = x.looks.added;
         adds = x.looks.adds;
@@ -101,7 +105,7 @@ module _ (about : BoardSizes) (given : Setup) (s t : Server) (old new : BoardSea
   left_explains : LeavesInbox about s t old new hint_old hint_new → (ts : _)
       → Explained old.steps ts → Explained new.steps ts
   left_explains x ts is =
-      calm_explains x.mid new (calm_gate x.mid new (without_reasons x.gate)) ts
+      calm_explains x.mid new (left_calm x) ts
       (calm_explains old x.mid (record {
         added = x.looks.added;
         adds = x.looks.adds;
@@ -214,19 +218,20 @@ takes_stay about given s t true old new hint_old hint_new x =
           ∙ ap (λ (v : BoardSeatView). v.table) x.peeks.adds;
       number = ap (λ (v : BoardSeatView). v.number) x.records.adds
           ∙ ap (λ (v : BoardSeatView). v.number) x.peeks.adds;
-      hint_table = writes_there given.cpus s.app s.home _ s.writes t.writes hint_old hint_new
-          x.records.writes;
+      hint_table = writes_there given.cpus s.app s.home _ s.writes t.writes x.hint_mid hint_new
+          x.records.writes
+          ∙ ap (λ (h : Hint). h.table) x.loads;
     }
 takes_stay about given s t false old new hint_old hint_new x =
     record {
       app = ap (λ (v : Server). v.app) x.same;
       home = ap (λ (v : Server). v.home) x.same;
       room = ap (λ (v : Server). v.sent.room) x.same;
-      table = gate_table x.mid new (calm_gate x.mid new (without_reasons x.gate))
+      table = gate_table x.mid new (left_calm about given s t old new hint_old hint_new x)
           ∙ ap (λ (v : BoardSeatView). v.table) x.looks.adds;
-      number = gate_number x.mid new (calm_gate x.mid new (without_reasons x.gate))
+      number = gate_number x.mid new (left_calm about given s t old new hint_old hint_new x)
           ∙ ap (λ (v : BoardSeatView). v.number) x.looks.adds;
-      hint_table = ap (λ (h : Hint). h.table) x.hint;
+      hint_table = leaves_there about s t old new hint_old hint_new x;
     }
 
 replies_stay : (given : Setup) (late : List Arrival) (s t : Server) (sent : Bool)

@@ -109,6 +109,11 @@ module _ (about : BoardSizes) (o n : ℕ) (a b : BoardSeatView) (tail : ℕ)
         found = found_there t.word content answer told;
       }
 
+-- a look serves no lane
+pub peeks_serve : (about : BoardSizes) (o n : ℕ) (answer : Option ℕ) (a b : BoardSeatView)
+    → Peeks about o n answer a b → Serves no_lane a b
+peeks_serve about o n answer a b p = record { added = p.added; only = p.only; adds = p.adds }
+
 -- ---- a look in vain
 
 module _ (about : BoardSizes) (o start n : ℕ) (a b : BoardSeatView) (tail : ℕ)

@@ -8,18 +8,16 @@ use Rattle.steer_base.specs.declared.filter.Filter.{Filter}
 use Rattle.steer_base.specs.declared.put.Put.{Put}
 use Rattle.steer_base.specs.declared.put.Put.TheVariants.{At, Dropped}
 use Rattle.hint_words.specs.declared.step.HintStep.{HintStep}
-use Rattle.hop_rule.specs.declared.step.BoardStep.TheVariants.{Gate}
-use Rattle.hop_rule.specs.declared.step.GateStep.TheVariants.{Left, Turned}
-use Rattle.board_api.specs.Seats.{BoardSeatView, Adds}
+use Rattle.board_api.specs.Seats.{BoardSeatView}
 use Rattle.steer_base.specs.Arrivals.{filter_place}
 use Rattle.steer_model.specs.State.Setup.{Setup, packet_hash}
 use Rattle.steer_model.specs.Steps.Pollers.{filter_for}
 use Rattle.run_workers.specs.Hands.Laws.{PollsStay, Stays}
-use Rattle.run_workers.specs.Hands.Pollers.{AsksFilter, LooksUp, Polls, SteersHand}
+use Rattle.run_workers.specs.Hands.Pollers.{AsksFilter, FindsClosed, LooksUp, Polls, SteersHand}
 use Rattle.run_workers.specs.Hands.Pollers.{StoresFilter, Waits, count_after}
 use Rattle.run_workers.specs.Tally.{dropped_by}
 use Rattle.run_workers.specs.declared.poller.Poller.{Poller}
-use Rattle.run_workers.proofs.Hands.DeltaLemmas.{without_reason}
+use Rattle.run_workers.proofs.Hands.WaitLemmas.{waits_at_board, waits_there}
 
 abbrev Hint : Type 0
 Hint = SeatView HintStep
@@ -46,15 +44,11 @@ asks_there given filters id choice (Dropped number accepted pulled cause) old ne
 pub polls_stay : PollsStay
 polls_stay given filters p q old new hint_old hint_new polls = by_case polls.steers
   where
-    waited_table : (new ≡ old)
-        ⊎ ((word : ℕ) × Adds (Gate Left ∷ Gate (Turned word) ∷ []) old new)
-        → new.table ≡ old.table
+    waited_table : (new ≡ old) ⊎ FindsClosed old new → new.table ≡ old.table
     waited_table (inl same) = ap (λ (s : BoardSeatView). s.table) same
     waited_table (inr (word, adds)) = ap (λ (s : BoardSeatView). s.table) adds
 
-    waited_number : (new ≡ old)
-        ⊎ ((word : ℕ) × Adds (Gate Left ∷ Gate (Turned word) ∷ []) old new)
-        → new.number ≡ old.number
+    waited_number : (new ≡ old) ⊎ FindsClosed old new → new.number ≡ old.number
     waited_number (inl same) = ap (λ (s : BoardSeatView). s.number) same
     waited_number (inr (word, adds)) = ap (λ (s : BoardSeatView). s.number) adds
 
@@ -64,13 +58,14 @@ polls_stay given filters p q old new hint_old hint_new polls = by_case polls.ste
         → Stays p q old new hint_old hint_new
     by_case (inl waits) =
         let from = waits.same in
+        let at_board = waits_at_board polls.mid q old new hint_old hint_new waits in
         record {
           queue = ap (λ (x : Poller). x.queue) from ∙ ap (λ (x : Poller). x.queue) polls.same;
           room = ap (λ (x : Poller). x.choices.room) from
               ∙ ap (λ (x : Poller). x.choices.room) polls.same;
-          table = waited_table (without_reason waits.steps);
-          number = waited_number (without_reason waits.steps);
-          hint_table = ap (λ (s : Hint). s.table) waits.hint;
+          table = waited_table at_board;
+          number = waited_number at_board;
+          hint_table = waits_there polls.mid q old new hint_old hint_new waits;
         }
     by_case (inr (id, hand, steers)) =
         let v = steers.visit in
@@ -83,8 +78,10 @@ polls_stay given filters p q old new hint_old hint_new polls = by_case polls.ste
           number = ap (λ (s : BoardSeatView). s.number) v.adds;
           hint_table =
               asks_there given filters steers.turn.chosen.id steers.turn.chosen.choice
-              steers.turn.answer v.hint_mid hint_new v.asks
-              ∙ looks_there given.cpus _ hint_old v.hint_mid v.want v.looks;
+              steers.turn.answer v.hint_marked hint_new v.asks
+              ∙ (ap (λ (s : Hint). s.table) v.marks
+              ∙ (looks_there given.cpus _ steers.hint_mid v.hint_mid v.want v.looks
+              ∙ ap (λ (s : Hint). s.table) steers.loads));
         }
 
 -- ---- drops

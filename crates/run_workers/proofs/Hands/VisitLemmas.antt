@@ -27,7 +27,7 @@ use Rattle.steer_model.specs.State.Setup.{Setup, packet_hash}
 use Rattle.run_workers.specs.Hands.Deltas.{HoldsNoMore, LeavesLane}
 use Rattle.run_workers.specs.Hands.Drains.{IsDrain}
 use Rattle.run_workers.specs.Hands.Laws.{PollsLeaveDrains, ServesExplain, VisitsExplain}
-use Rattle.run_workers.specs.Hands.Pollers.{SteersHand, Waits}
+use Rattle.run_workers.specs.Hands.Pollers.{FindsClosed, SteersHand, Waits}
 use Rattle.run_workers.specs.declared.drain.Drain.{Drain}
 use Rattle.run_workers.specs.Hands.Pollers.{LoadedHead, LoadsHead, Steers, Visits, class_read}
 use Rattle.run_workers.specs.Hands.Pollers.{desired_read, online_read, put_of, read_steps}
@@ -35,8 +35,8 @@ use Rattle.run_workers.specs.Hands.Pollers.{refreshed}
 use Rattle.run_workers.specs.declared.poller.Reading.{Reading}
 use Rattle.run_workers.proofs.Hands.ChoiceLemmas.{class_stays}
 use Rattle.run_workers.proofs.Hands.DrainLemmas.{stays_drain}
-use Rattle.run_workers.proofs.Hands.DeltaLemmas.{without_reason}
 use Rattle.run_workers.proofs.Hands.DeltaLemmas.{adds_both, holds_both, leaves_both, quiet_both}
+use Rattle.run_workers.proofs.Hands.WaitLemmas.{waits_at_board}
 
 -- steps at the gate and of loads hold and serve nothing
 pub record AreIdle (added : List BoardStep) : Type 0 where
@@ -232,6 +232,7 @@ module _ (given : Setup) (filters q flows seen : ℕ) (before after : Table)
             want = s.chooses.want;
             head = s.chooses.head;
             hint_mid = s.hint_mid;
+            hint_marked = s.hint_marked;
             reads = λ d among. Contains-append_right s.puts.early (head.added ++ reads) d
                 (Contains-append_right head.added reads d among);
             looks = s.chooses.looks;
@@ -241,6 +242,7 @@ module _ (given : Setup) (filters q flows seen : ℕ) (before after : Table)
             table = told;
             word = s.chooses.word;
             count = s.puts.count;
+            marks = s.marks;
             asks = s.puts.asks;
           }
 
@@ -282,8 +284,7 @@ leaves_drain given d added old new adds leaves is =
 pub polls_leave : PollsLeaveDrains
 polls_leave given d filters p q old new hint_old hint_new polls is = by_case polls.steers
   where
-    by_steps : (new ≡ old) ⊎ ((word : ℕ) × Adds (Gate Left ∷ Gate (Turned word) ∷ []) old new)
-        → IsDrain given d new.steps
+    by_steps : (new ≡ old) ⊎ FindsClosed old new → IsDrain given d new.steps
     by_steps (inl same) =
         subst (λ (v : BoardSeatView). IsDrain given d v.steps) (sym same) is
     by_steps (inr (word, adds)) =
@@ -294,7 +295,7 @@ polls_leave given d filters p q old new hint_old hint_new polls is = by_case pol
         ⊎ ((id : ℕ) × (polls.mid.hand ≡ Some id)
         × SteersHand given filters id polls.mid q old new hint_old hint_new)
         → IsDrain given d new.steps
-    by_case (inl waits) = by_steps (without_reason waits.steps)
+    by_case (inl waits) = by_steps (waits_at_board polls.mid q old new hint_old hint_new waits)
     by_case (inr (id, hand, steers)) =
         leaves_drain given d (visit_with steers.turn [] []) old new steers.visit.adds
         (steers.visit.leaves d.lane) is

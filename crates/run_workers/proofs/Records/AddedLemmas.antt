@@ -17,10 +17,11 @@ use Rattle.run_workers.specs.declared.server.Server.{Server}
 use Rattle.run_workers.specs.Records.Growth.{Grows}
 use Rattle.run_workers.specs.Records.ReplyingLaws.{CallsAddSteps}
 use Rattle.run_workers.proofs.Records.HeldLemmas.{writes_grow}
-use Rattle.run_workers.proofs.Records.HintLemmas.{polls_keep_hints, steps_one, steps_same}
+use Rattle.run_workers.proofs.Records.HintLemmas.{polls_keep_hints, steps_one}
 use Rattle.run_workers.proofs.Records.ListLemmas.{grows_both}
-use Rattle.run_workers.proofs.Records.ReplyingLemmas.{adds_grow, gate_grow, kept_grow}
-use Rattle.run_workers.proofs.Hands.DeltaLemmas.{without_reason, without_reasons}
+use Rattle.run_workers.proofs.Records.ReplyingLemmas.{adds_grow, gate_grow, kept_grow, leaves_grow}
+use Rattle.run_workers.proofs.Hands.DeltaLemmas.{without_reasons}
+use Rattle.run_workers.proofs.Hands.WaitLemmas.{waits_at_board}
 
 abbrev Hint : Type 0
 Hint = SeatView HintStep
@@ -30,8 +31,8 @@ polls_grow : (given : Setup) (filters : ℕ) (mid q : Poller) (old new : BoardSe
     ⊎ ((id : ℕ) × (mid.hand ≡ Some id) × SteersHand given filters id mid q old new hint_old
     hint_new)
     → Grows old.steps new.steps
-polls_grow given filters mid q old new hint_old hint_new (inl waits) = gate_grow old new
-    (without_reason waits.steps)
+polls_grow given filters mid q old new hint_old hint_new (inl waits) =
+    gate_grow old new (waits_at_board mid q old new hint_old hint_new waits)
 polls_grow given filters mid q old new hint_old hint_new (inr (id, hand, steers)) =
     adds_grow (visit_with steers.turn [] []) old new steers.visit.adds
 
@@ -43,13 +44,13 @@ takes_grow about given s t true old new hint_old hint_new x = (
   grows_both old.steps x.mid.steps new.steps (adds_grow x.peeks.added old x.mid x.peeks.adds)
       (adds_grow (Gate Left ∷ Gate (Read (2 * length given.homes) x.records.size)
       ∷ Gate (Entered x.records.word) ∷ []) x.mid new x.records.adds),
-  writes_grow given.cpus s.app s.home _ s.writes t.writes hint_old hint_new x.records.writes,
+  grows_both hint_old.steps x.hint_mid.steps hint_new.steps
+      (steps_one _ hint_old x.hint_mid x.loads)
+      (writes_grow given.cpus s.app s.home _ s.writes t.writes x.hint_mid hint_new
+      x.records.writes),
 )
-takes_grow about given s t false old new hint_old hint_new x = (
-  grows_both old.steps x.mid.steps new.steps (adds_grow x.looks.added old x.mid x.looks.adds)
-      (gate_grow x.mid new (without_reasons x.gate)),
-  steps_same hint_old hint_new x.hint,
-)
+takes_grow about given s t false old new hint_old hint_new x =
+    leaves_grow about s t old new hint_old hint_new x
 
 replies_grow : (given : Setup) (late : List Arrival) (s t : Server) (sent : Bool)
     (old new : BoardSeatView) (hint_old hint_new : Hint)

@@ -1,6 +1,7 @@
 -- What an application has held, read, loaded and written stays while its seats go on.
 use Rattle.std.proofs.Common.{◌≡◌, ◌⊎◌, inl, inr, ℕ, ◌*◌, List, [], ◌∷◌, ◌++◌, Option, None, Some}
-use Rattle.std.proofs.Common.{◌+◌, length, sym, refl, ap, ◌∙◌, subst, append_assoc}
+use Rattle.std.proofs.Common.{◌+◌, length, map, sym, refl, ap, ◌∙◌, subst, append_assoc}
+use Rattle.linearization.specs.Orders.{StepBy, step_by, steps_of}
 use Rattle.linearization.specs.Seats.{SeatView}
 use Rattle.steer_base.specs.Choices.{class_of}
 use Rattle.steer_base.specs.Journals.{Journal}
@@ -12,14 +13,17 @@ use Rattle.hop_rule.specs.declared.step.BoardStep.{BoardStep}
 use Rattle.hop_rule.proofs.Lists.{none-some}
 use Rattle.steer_model.specs.State.Setup.{Setup, packet_hash}
 use Rattle.run_words.specs.Values.{place_in, socket_size_in}
-use Rattle.run_words.specs.declared.hint_word.TheConstants.{QUEUE_WORDS, STAND_WORDS}
+use Rattle.run_words.specs.Lists.{oldest_first}
+use Rattle.run_words.specs.Numbers.{hint_number}
+use Rattle.run_words.specs.declared.hint_word.HintWord.TheVariants as hint
+use Rattle.run_words.specs.declared.hint_word.TheConstants.{STAND_WORDS}
 use Rattle.run_workers.specs.Hands.Servers.{Queued, Stands, Writes, queue_by}
 use Rattle.run_workers.specs.Records.Growth.{Grows}
 use Rattle.run_workers.specs.Records.Replying.{HasWrittenAll, HasCome, HasFound, HasReadInside}
-use Rattle.run_workers.specs.Records.Replying.{HasStood}
-use Rattle.run_workers.specs.Records.Replying.{HasWritten}
+use Rattle.run_workers.specs.Records.Replying.{HasStood, HasWritten}
+use Rattle.run_workers.specs.Records.Words.{Note}
 use Rattle.run_workers.proofs.Records.ListLemmas.{append_none, contains_first, contains_later}
-use Rattle.run_workers.proofs.Records.ListLemmas.{grows_both}
+use Rattle.run_workers.proofs.Records.ListLemmas.{grows_both, own_turn}
 use Rattle.run_workers.proofs.Records.HintLemmas.{steps_one, steps_same}
 
 abbrev Hint : Type 0
@@ -40,7 +44,7 @@ pub came_later : (queues : ℕ) (arrivals : List Arrival) (ds es : List HintStep
 came_later queues arrivals ds es id rxq grow (word, is, has) = (
   word,
   is,
-  contains_later ds es (Load (QUEUE_WORDS + id) word) grow has,
+  contains_later ds es (Load (hint_number (hint.Queue id)) word) grow has,
 )
 
 pub stands_there : (cpus app home : ℕ) (old new : Hint) (cpu : ℕ)
@@ -72,9 +76,9 @@ queued_by : (queues id : ℕ) (late : List Arrival) (old new : Hint) (rxq : ℕ)
 queued_by queues id late old new rxq (word, is, steps) = (
   word,
   sym is,
-  contains_later (Load (QUEUE_WORDS + id) word ∷ old.steps) new.steps
-      (Load (QUEUE_WORDS + id) word) ([], ap (λ (h : Hint). h.steps) steps)
-      (contains_first (Load (QUEUE_WORDS + id) word) old.steps),
+  contains_later (Load (hint_number (hint.Queue id)) word ∷ old.steps) new.steps
+      (Load (hint_number (hint.Queue id)) word) ([], ap (λ (h : Hint). h.steps) steps)
+      (contains_first (Load (hint_number (hint.Queue id)) word) old.steps),
 )
 
 pub queued_there : (queues id : ℕ) (late arrivals : List Arrival) (old new : Hint) (rxq : ℕ)
@@ -112,88 +116,112 @@ read_later ds es setting value (more, is) x =
 
 module _ (given : Setup) (app home : ℕ) (rx es : List BoardStep) (hints fs : List HintStep)
     (rx_grow : Grows rx es) (grow : Grows hints fs) where
-  written_later : (entry : Option ℕ) (rest writes : List SockWrite)
-      → HasWritten given app home rx hints entry rest writes
-      → HasWritten given app home es fs entry rest writes
-  written_later None rest writes is = is
-  written_later (Some entry) rest writes (cpu, stood, is) = (
+  written_later : (id : ℕ) (entry : Option ℕ) (rest notes : List Note)
+      → HasWritten given app home rx hints id entry rest notes
+      → HasWritten given app home es fs id entry rest notes
+  written_later id None rest notes is = is
+  written_later id (Some entry) rest notes (cpu, stood, is) = (
     cpu,
     stood_later given.cpus app home hints fs cpu grow stood,
     is,
   )
 
-  pub writes_later : (ids : List ℕ) (writes : List SockWrite)
-      → HasWrittenAll given app home rx hints ids writes → HasWrittenAll given app home es fs ids
-      writes
-  writes_later [] writes is = is
-  writes_later (id ∷ ids) writes (size, rest, read, one, more) = (
+  pub writes_later : (ids : List ℕ) (notes : List Note)
+      → HasWrittenAll given app home rx hints ids notes
+      → HasWrittenAll given app home es fs ids notes
+  writes_later [] notes is = is
+  writes_later (id ∷ ids) notes (size, rest, read, one, more) = (
     size,
     rest,
     read_later rx es _ size rx_grow read,
-    written_later _ rest writes one,
+    written_later id _ rest notes one,
     writes_later ids rest more,
   )
 
 module _ (given : Setup) (app home : ℕ) (rx : List BoardStep) (hints : List HintStep) where
-  one_more : (entry : Option ℕ) (rest writes last : List SockWrite)
-      → HasWritten given app home rx hints entry rest writes
-      → HasWritten given app home rx hints entry (rest ++ last) (writes ++ last)
-  one_more None rest writes last is = ap (λ ws. ws ++ last) is
-  one_more (Some entry) rest writes last (cpu, stood, is) = (
+  one_more : (id : ℕ) (entry : Option ℕ) (rest notes last : List Note)
+      → HasWritten given app home rx hints id entry rest notes
+      → HasWritten given app home rx hints id entry (rest ++ last) (notes ++ last)
+  one_more id None rest notes last is = ap (λ ns. ns ++ last) is
+  one_more id (Some entry) rest notes last (cpu, stood, is) = (
     cpu,
     stood,
-    ap (λ ws. ws ++ last) is,
+    ap (λ ns. ns ++ last) is,
   )
 
   -- what was written for packets, and then for one more
-  pub writes_more : (ids : List ℕ) (writes : List SockWrite) (id size : ℕ)
-      (last : List SockWrite) → HasWrittenAll given app home rx hints ids writes
+  pub writes_more : (ids : List ℕ) (notes : List Note) (id size : ℕ) (last : List Note)
+      → HasWrittenAll given app home rx hints ids notes
       → HasReadInside rx (2 * length given.homes) size
-      → HasWritten given app home rx hints (class_of (socket_size_in size) (packet_hash given id))
-      []
-      last → HasWrittenAll given app home rx hints (ids ++ id ∷ []) (writes ++ last)
-  writes_more [] writes id size last is read one = (
+      → HasWritten given app home rx hints id
+      (class_of (socket_size_in size) (packet_hash given id)) [] last
+      → HasWrittenAll given app home rx hints (ids ++ id ∷ []) (notes ++ last)
+  writes_more [] notes id size last is read one = (
     size,
     [],
     read,
-    subst (λ ws. HasWritten given app home rx hints
-        (class_of (socket_size_in size) (packet_hash given id)) [] (ws ++ last)) (sym is) one,
+    subst (λ ns. HasWritten given app home rx hints id
+        (class_of (socket_size_in size) (packet_hash given id)) [] (ns ++ last)) (sym is) one,
     refl,
   )
-  writes_more (x ∷ ids) writes id size last (n, rest, before, first, more) read one = (
+  writes_more (x ∷ ids) notes id size last (n, rest, before, first, more) read one = (
     n,
     rest ++ last,
     before,
-    one_more _ rest writes last first,
+    one_more x _ rest notes last first,
     writes_more ids rest id size last more read one,
   )
 
--- the write of a call
-pub writes_there : (given : Setup) (app home : ℕ) (rx : List BoardStep) (entry : Option ℕ)
-    (before after : Journal SockWrite) (old new : Hint)
+-- ---- the write of a call
+
+-- The notes of a seat with what a call wrote for this packet, if it wrote: these last ones.
+pub record NotedFor (given : Setup) (app home id : ℕ) (rx : List BoardStep) (entry : Option ℕ)
+    (before after : Journal SockWrite) (hints : List HintStep) (noted : List (StepBy Note))
+    : Type 0 where
+  pub more : List (StepBy Note)
+  pub last : List Note
+  pub has : HasWritten given app home rx hints id entry [] last
+  pub journal : after.items ≡ before.items ++ map (λ (n : Note). n.write) last
+  pub notes : oldest_first (steps_of app more) ≡ oldest_first (steps_of app noted) ++ last
+  pub grow : ((more ≡ noted) × (after.items ≡ before.items))
+      ⊎ ((n : Note) × (n.packet ≡ id) × (after.items ≡ before.items ++ n.write ∷ [])
+      × (more ≡ step_by app n ∷ noted))
+
+pub writes_there : (given : Setup) (app home id : ℕ) (rx : List BoardStep) (entry : Option ℕ)
+    (before after : Journal SockWrite) (old new : Hint) (noted : List (StepBy Note))
     → Writes given.cpus app home entry before after old new
-    → (last : List SockWrite) × HasWritten given app home rx new.steps entry [] last
-    × (after.items ≡ before.items ++ last)
-writes_there given app home rx None before after old new (same, hint) = (
-  [],
-  refl,
-  ap (λ (j : Journal SockWrite). j.items) same ∙ sym (append_none before.items),
-)
-writes_there given app home rx (Some entry) before after old new (cpu, mid, stands, store, note) = (
-  record { entry = entry; cpu = cpu } ∷ [],
-  (
-    cpu,
-    stood_later given.cpus app home mid.steps new.steps cpu (steps_one _ mid new store)
-        (stands_there given.cpus app home old mid cpu stands),
-    refl,
-  ),
-  ap (λ (j : Journal SockWrite). j.items) note,
-)
+    → NotedFor given app home id rx entry before after new.steps noted
+writes_there given app home id rx None before after old new noted (same, kept) =
+    let journal = ap (λ (j : Journal SockWrite). j.items) same in
+    record {
+      more = noted;
+      last = [];
+      has = refl;
+      journal = journal ∙ sym (append_none before.items);
+      notes = sym (append_none (oldest_first (steps_of app noted)));
+      grow = inl (refl, journal);
+    }
+writes_there given app home id rx (Some entry) before after old new noted
+    (cpu, mid, stands, store, note) =
+    let n : Note = record { packet = id; write = record { entry = entry; cpu = cpu } } in
+    record {
+      more = step_by app n ∷ noted;
+      last = n ∷ [];
+      has = (
+        cpu,
+        stood_later given.cpus app home mid.steps new.steps cpu (steps_one _ mid new store)
+            (stands_there given.cpus app home old mid cpu stands),
+        refl,
+      );
+      journal = ap (λ (j : Journal SockWrite). j.items) note;
+      notes = ap oldest_first (own_turn app n noted);
+      grow = inr (n, refl, ap (λ (j : Journal SockWrite). j.items) note, refl);
+    }
 
 pub writes_grow : (cpus app home : ℕ) (entry : Option ℕ) (before after : Journal SockWrite)
     (old new : Hint) → Writes cpus app home entry before after old new
     → Grows old.steps new.steps
-writes_grow cpus app home None before after old new (same, hint) = steps_same old new hint
+writes_grow cpus app home None before after old new (same, kept) = steps_same old new kept
 writes_grow cpus app home (Some entry) before after old new (cpu, mid, stands, store, note) =
     grows_both old.steps mid.steps new.steps (steps_one _ old mid stands.2)
     (steps_one _ mid new store)

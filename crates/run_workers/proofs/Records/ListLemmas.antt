@@ -2,14 +2,15 @@
 use Rattle.std.proofs.Common.{◌≡◌, ◌⊎◌, inl, inr, ℕ, zero, suc, List, [], ◌∷◌, ◌++◌}
 use Rattle.std.specs.Prelude.{slice_get}
 use Rattle.std.proofs.Common.{if◌then◌else◌, Some, append_assoc, length, map, sym, refl, ap, ◌∙◌}
-use Rattle.std.proofs.Common.{subst, arith}
+use Rattle.std.proofs.Common.{◌≤◌, subst, arith, length-append}
 use Rattle.std.specs.List.{Contains}
 use Rattle.std.proofs.lemmas.List.{map-append}
 use Rattle.std.proofs.lemmas.List.Elements.{Contains-append_right}
 use Rattle.linearization.specs.Orders.{StepBy, step_by, steps_of}
 use Rattle.linearization.proofs.ListLemmas.{if_same}
+use Rattle.hop_rule.specs.Moments.{nth_step}
 use Rattle.hop_rule.proofs.Lists.{none-some, some-is}
-use Rattle.hop_delivery.specs.Orders.Turns.{Turn}
+use Rattle.hop_rule.proofs.Moments.{nth-inside, nth-old}
 use Rattle.run_words.specs.Lists.{oldest_first}
 use Rattle.run_workers.specs.Records.Growth.{Grows}
 use Rattle.run_workers.specs.Records.PollingLaws.{OtherTurnsStay}
@@ -29,13 +30,21 @@ module _ {A : Type 0} where
   contains_later xs ys x (ds, is) has =
       subst (λ zs. Contains zs x) (sym is) (Contains-append_right ds xs x has)
 
+  pub nth_later : (xs ys : List A) (n : ℕ) (x : A) → Grows xs ys → nth_step xs n ≡ Some x
+      → nth_step ys n ≡ Some x
+  nth_later xs ys n x (ds, is) at =
+      ap (λ zs. nth_step zs n) is ∙ (nth-old ds xs n (nth-inside xs n x at) ∙ at)
+
+  pub grown_length : (xs ys : List A) → Grows xs ys → length xs ≤ length ys
+  grown_length xs ys (ds, is) = let n = length-append ds xs in let m = ap length is in omega arith
+
 -- the turns of the producer of a turn, with that turn
-pub own_turn : (a : ℕ) (u : Turn) (ts : List (StepBy Turn))
+pub own_turn : {A : Type 0} (a : ℕ) (u : A) (ts : List (StepBy A))
     → steps_of a (step_by a u ∷ ts) ≡ u ∷ steps_of a ts
 own_turn a u ts = if_same a a (u ∷ steps_of a ts) (steps_of a ts) refl
 
 -- the turns of another producer
-pub others_stay : OtherTurnsStay
+pub others_stay : {A : Type 0} → OtherTurnsStay A
 others_stay a p ts more other (inl same) = ap (steps_of p) same
 others_stay a p ts more other (inr (u, is)) =
     ap (steps_of p) is ∙ ap (λ b. if b then u ∷ steps_of p ts else steps_of p ts) other

@@ -15,31 +15,34 @@ use Rattle.steer_base.specs.Journals.{grown}
 use Rattle.steer_base.specs.declared.choice.Chosen.{Chosen}
 use Rattle.dev_flow_table.specs.Tables.{Table}
 use Rattle.hint_words.specs.declared.step.HintStep.{HintStep}
-use Rattle.board_api.specs.Seats.{BoardSeatView, Adds}
+use Rattle.hop_rule.proofs.Moments.{nth-inside}
+use Rattle.board_api.specs.Seats.{BoardSeatView}
 use Rattle.hop_rule.specs.declared.step.BoardStep.TheVariants.{Gate}
 use Rattle.hop_rule.specs.declared.step.GateStep.TheVariants.{Left, Turned}
 use Rattle.hop_delivery.specs.Orders.Turns.{Explained, Turn}
 use Rattle.hop_delivery.proofs.Orders.TurnLemmas.{explained_more}
 use Rattle.steer_model.specs.State.Setup.{Setup, packet_hash}
 use Rattle.run_words.specs.Values.{socket_size_in}
-use Rattle.run_workers.specs.Hands.Pollers.{IsPoller, SteersHand, Takes, Visits, Waits, class_read}
+use Rattle.run_workers.specs.Hands.Pollers.{FindsClosed, IsPoller, LoadsQueue, SteersHand, Takes}
+use Rattle.run_workers.specs.Hands.Pollers.{Visits, Waits, class_read}
 use Rattle.run_workers.specs.Hands.Pollers.{count_after, refreshed, socket_entry}
 use Rattle.run_workers.specs.declared.poller.Poller.{Poller}
 use Rattle.run_workers.proofs.Hands.VisitLemmas.{visits_explain}
 use Rattle.run_workers.specs.Records.Growth.{Grows, TurnsGrow, held}
-use Rattle.run_workers.specs.Records.Polling.{AllPolled, IsLastLook, IsPolled, IsPolling}
-use Rattle.run_workers.specs.Records.Polling.{PolledTurn}
+use Rattle.run_workers.specs.Records.Polling.{AllPolled, HasLookedUp, IsLastLook, IsLastMark}
+use Rattle.run_workers.specs.Records.Polling.{IsPolled, IsPolling, PolledTurn}
 use Rattle.run_workers.specs.Records.Polling.{choices_in}
 use Rattle.run_workers.specs.Records.Polling.{last_flows, packet_of_number, ring_packets}
 use Rattle.run_workers.specs.Records.Polling.{polled_table}
 use Rattle.run_workers.specs.Records.PollingLaws.{PollersBegin, PollersGoOn, PollersStay, PollsOn}
-use Rattle.run_workers.specs.Records.Storing.{StoresAreFor}
-use Rattle.run_workers.proofs.Records.StoringLemmas.{visit_stores}
-use Rattle.run_workers.proofs.Records.HintLemmas.{asks_stay, look_at, look_below, looked_stays}
-use Rattle.run_workers.proofs.Records.HintLemmas.{looked_up}
-use Rattle.run_workers.proofs.Records.HintLemmas.{polls_keep_hints}
-use Rattle.run_workers.proofs.Records.ListLemmas.{append_none, noted_more, own_turn}
-use Rattle.run_workers.proofs.Hands.DeltaLemmas.{without_reason}
+use Rattle.run_workers.specs.Records.Words.{Mark}
+use Rattle.run_workers.proofs.Records.StoringLemmas.{at_most_stores, visit_stores}
+use Rattle.run_workers.proofs.Records.HintLemmas.{asks_stay, done_last, look_at, look_below}
+use Rattle.run_workers.proofs.Records.HintLemmas.{load_grow, looked_stays, looked_up, looks_stay}
+use Rattle.run_workers.proofs.Records.HintLemmas.{polls_keep_hints, steps_one, waits_load}
+use Rattle.run_workers.proofs.Records.ListLemmas.{append_none, grows_both, noted_more, nth_later}
+use Rattle.run_workers.proofs.Records.ListLemmas.{own_turn}
+use Rattle.run_workers.proofs.Hands.WaitLemmas.{waits_at_board}
 
 abbrev Hint : Type 0
 Hint = SeatView HintStep
@@ -56,6 +59,9 @@ module _ (first start : ℕ) (given : Setup) (packets q : ℕ) (ds es : List Hin
         want = x.want;
         looks = looked_stays given.cpus _ ds es s.look x.want stay x.looks;
         last = x.last;
+        marked = nth_later ds es s.mark _ stay x.marked;
+        marked_late = x.marked_late;
+        marked_last = x.marked_last;
         head = x.head;
         loads = x.loads;
         looked = x.looked;
@@ -78,11 +84,24 @@ looks_below first start given packets q ds (s ∷ ss) all =
     (look_below given.cpus _ ds s.look all.0.want all.0.looks)
     (looks_below first start given packets q ds ss all.1)
 
+-- and so are their marks
+marks_below : (first start : ℕ) (given : Setup) (packets q : ℕ) (ds : List HintStep)
+    (ss : List PolledTurn) → AllPolled first start given packets q ds ss
+    → IsLastMark ss (length ds)
+marks_below first start given packets q ds [] all =
+    All-nil (λ (s : PolledTurn). s.mark < length ds)
+marks_below first start given packets q ds (s ∷ ss) all =
+    All-cons (λ (s : PolledTurn). s.mark < length ds) s ss
+    (nth-inside ds s.mark _ all.0.marked)
+    (marks_below first start given packets q ds ss all.1)
+
 pub pollers_begin : PollersBegin
-pollers_begin given first start p turns hints hand flows items accepted table ring own =
+pollers_begin given first start p turns marks hints hand flows items accepted table ring own
+    own_marks =
     record {
       polled = [];
       own = sym own;
+      marked = sym own_marks;
       journal = items ∙ sym (ap choices_in own);
       taken = ap (ring_packets p.choices.room) ring
           ∙ sym (λ i. map (λ (c : Chosen). c.id) (items i) ++ held (hand i));
@@ -93,10 +112,11 @@ pollers_begin given first start p turns hints hand flows items accepted table ri
     }
 
 pub pollers_stay : PollersStay
-pollers_stay given first start p turns more hints after same stay x =
+pollers_stay given first start p turns more marks more_marks hints after same same_marks stay x =
     record {
       polled = x.polled;
       own = x.own ∙ sym same;
+      marked = x.marked ∙ sym same_marks;
       journal = x.journal ∙ sym (ap choices_in same);
       taken = x.taken;
       flows = x.flows;
@@ -108,7 +128,7 @@ pollers_stay given first start p turns more hints after same stay x =
 -- ---- taking from the ring
 
 module _ (given : Setup) (first start : ℕ) (p mid : Poller) (turns : List (StepBy Turn))
-    (hints : List HintStep) where
+    (marks : List (StepBy Mark)) (hints : List HintStep) where
   -- the packets of a ring from which one number more came
   ring_more : (x : ℕ) → received mid.ring ≡ received p.ring ++ x ∷ []
       → mid.hand ≡ (if nat_lt x p.choices.room then Some x else None)
@@ -142,11 +162,13 @@ module _ (given : Setup) (first start : ℕ) (p mid : Poller) (turns : List (Ste
 
   pub took_is : (took : Bool) → Takes p mid took
       → mid ≡ record p { hand = mid.hand; ring = mid.ring }
-      → IsPolling given first start p turns hints → IsPolling given first start mid turns hints
+      → IsPolling given first start p turns marks hints
+      → IsPolling given first start mid turns marks hints
   took_is took takes same x =
-      subst (λ z. IsPolling given first start z turns hints) (sym same) (record {
+      subst (λ z. IsPolling given first start z turns marks hints) (sym same) (record {
         polled = x.polled;
         own = x.own;
+        marked = x.marked;
         journal = x.journal;
         taken = taken_more took takes x.taken;
         flows = x.flows;
@@ -158,20 +180,20 @@ module _ (given : Setup) (first start : ℕ) (p mid : Poller) (turns : List (Ste
 -- ---- a turn
 
 module _ (given : Setup) (filters first start id : ℕ) (mid q : Poller) (turns : List (StepBy Turn))
-    (old new : BoardSeatView) (hint_old hint_new : Hint)
+    (marks : List (StepBy Mark)) (old new : BoardSeatView) (hint_old hint_new : Hint)
     (hand : mid.hand ≡ Some id) (within : id < mid.choices.room)
     (steers : SteersHand given filters id mid q old new hint_old hint_new)
-    (x : IsPolling given first start mid turns hint_old.steps) where
+    (x : IsPolling given first start mid turns marks hint_old.steps) where
   abbrev turn : Turn
   turn = steers.turn
 
   -- the visit by the flow word and the table of the turns so far
   abbrev visit : Visits given filters mid.queue (last_flows first start x.polled) q.flows
-      (polled_table first start x.polled) q.table mid.accepted q.accepted turn old new hint_old
-      hint_new
+      (polled_table first start x.polled) q.table mid.accepted q.accepted turn old new
+      steers.hint_mid hint_new
   visit =
       subst (λ (z : ℕ × Table). Visits given filters mid.queue z.0 q.flows z.1 q.table mid.accepted
-      q.accepted turn old new hint_old hint_new) (λ i. (x.flows i, x.table i)) steers.visit
+      q.accepted turn old new steers.hint_mid hint_new) (λ i. (x.flows i, x.table i)) steers.visit
 
   -- the entry at which it looked up the socket flow table
   abbrev entry : Option ℕ
@@ -182,12 +204,23 @@ module _ (given : Setup) (filters first start id : ℕ) (mid q : Poller) (turns 
       (polled_table first start x.polled)))
       (packet_hash given turn.chosen.id)
 
+  -- the steps before its look and before its mark
+  abbrev look_step : ℕ
+  look_step = length steers.hint_mid.steps
+
+  abbrev mark_step : ℕ
+  mark_step = length visit.hint_mid.steps
+
   abbrev polled_turn : PolledTurn
   polled_turn = record {
     turn = turn;
     reading = visit.reading;
-    look = look_at entry (length hint_old.steps);
+    look = look_at entry look_step;
+    mark = mark_step;
   }
+
+  abbrev mark : Mark
+  mark = record { packet = turn.chosen.id; number = mark_step }
 
   hints_stay : Grows hint_old.steps hint_new.steps
   hints_stay =
@@ -200,11 +233,40 @@ module _ (given : Setup) (filters first start id : ℕ) (mid q : Poller) (turns 
         steers = inr (id, hand, steers);
       })
 
-  -- all looks so far are among the steps so far
-  is_last : (o : Option ℕ) → IfSome (look_at o (length hint_old.steps)) (IsLastLook x.polled)
+  loaded_stay : Grows hint_old.steps steers.hint_mid.steps
+  loaded_stay = steps_one _ hint_old steers.hint_mid steers.loads
+
+  looked_stay : Grows steers.hint_mid.steps visit.hint_mid.steps
+  looked_stay = looks_stay given.cpus entry steers.hint_mid visit.hint_mid visit.want visit.looks
+
+  asked_stay : Grows visit.hint_marked.steps hint_new.steps
+  asked_stay =
+      asks_stay given filters turn.chosen.id turn.chosen.choice turn.answer visit.hint_marked
+      hint_new visit.asks
+
+  marked_stay : Grows visit.hint_mid.steps hint_new.steps
+  marked_stay =
+      grows_both visit.hint_mid.steps visit.hint_marked.steps hint_new.steps
+      (steps_one _ visit.hint_mid visit.hint_marked visit.marks) asked_stay
+
+  looked_now : HasLookedUp given.cpus entry visit.hint_mid.steps polled_turn.look visit.want
+  looked_now =
+      looked_up given.cpus entry steers.hint_mid visit.hint_mid visit.want visit.looks
+
+  -- all looks and marks so far are among the steps so far
+  is_last : (o : Option ℕ) → IfSome (look_at o look_step) (IsLastLook x.polled)
   is_last None = tt
   is_last (Some e) =
-      looks_below first start given mid.choices.room mid.queue hint_old.steps x.polled x.are
+      looks_below first start given mid.choices.room mid.queue steers.hint_mid.steps x.polled
+      (all_stay first start given mid.choices.room mid.queue hint_old.steps
+      steers.hint_mid.steps loaded_stay x.polled x.are)
+
+  is_last_mark : IsLastMark x.polled mark_step
+  is_last_mark =
+      marks_below first start given mid.choices.room mid.queue visit.hint_mid.steps x.polled
+      (all_stay first start given mid.choices.room mid.queue hint_old.steps visit.hint_mid.steps
+      (grows_both hint_old.steps steers.hint_mid.steps visit.hint_mid.steps loaded_stay
+      looked_stay) x.polled x.are)
 
   is_polled : IsPolled first start given mid.choices.room mid.queue hint_new.steps x.polled
       polled_turn
@@ -214,12 +276,14 @@ module _ (given : Setup) (filters first start id : ℕ) (mid q : Poller) (turns 
         hash = visit.hash;
         reads = visit.reads;
         want = visit.want;
-        looks = looked_stays given.cpus entry visit.hint_mid.steps hint_new.steps
-            (look_at entry (length hint_old.steps)) visit.want
-            (asks_stay given filters turn.chosen.id turn.chosen.choice turn.answer visit.hint_mid
-            hint_new visit.asks)
-            (looked_up given.cpus entry hint_old visit.hint_mid visit.want visit.looks);
+        looks = looked_stays given.cpus entry visit.hint_mid.steps hint_new.steps polled_turn.look
+            visit.want marked_stay looked_now;
         last = is_last entry;
+        marked = nth_later visit.hint_marked.steps hint_new.steps mark_step _ asked_stay
+            (done_last _ visit.hint_mid visit.hint_marked visit.marks);
+        marked_late = look_below given.cpus entry visit.hint_mid.steps polled_turn.look visit.want
+            looked_now;
+        marked_last = is_last_mark;
         head = visit.head;
         loads = visit.loads;
         looked = visit.looked;
@@ -241,11 +305,12 @@ module _ (given : Setup) (filters first start id : ℕ) (mid q : Poller) (turns 
     table = q.table;
     choices = grown mid.choices turn.chosen;
     accepted = q.accepted;
-  }) (step_by mid.queue turn ∷ turns) hint_new.steps
+  }) (step_by mid.queue turn ∷ turns) (step_by mid.queue mark ∷ marks) hint_new.steps
   steered_is =
       record {
         polled = polled_turn ∷ x.polled;
         own = ap (λ us. turn ∷ us) x.own ∙ sym (own_turn mid.queue turn turns);
+        marked = ap (λ ms. mark ∷ ms) x.marked ∙ sym (own_turn mid.queue mark marks);
         journal = ap (λ cs. cs ++ turn.chosen ∷ []) x.journal
             ∙ (sym (noted_more (λ (u : Turn). u.chosen) turn (steps_of mid.queue turns))
             ∙ sym (ap choices_in (own_turn mid.queue turn turns)));
@@ -261,15 +326,18 @@ module _ (given : Setup) (filters first start id : ℕ) (mid q : Poller) (turns 
       }
 
   pub steers_on : Explained old.steps turns
-      → PollsOn given filters first start mid q turns new hint_old hint_new
+      → PollsOn given filters first start mid q turns marks new hint_old hint_new
   steers_on explained =
       record {
         more = step_by mid.queue turn ∷ turns;
         grow = inr (turn, refl);
+        more_marks = step_by mid.queue mark ∷ marks;
+        marks_grow = inr (mark, refl);
         explained = visits_explain given filters mid.queue mid.flows q.flows mid.table q.table
-            mid.accepted q.accepted turn old new hint_old hint_new steers.visit turns explained;
+            mid.accepted q.accepted turn old new steers.hint_mid hint_new steers.visit turns
+            explained;
         keeps = subst (λ z. IsPolling given first start z (step_by mid.queue turn ∷ turns)
-            hint_new.steps)
+            (step_by mid.queue mark ∷ marks) hint_new.steps)
             (sym (steers.same ∙ (λ i. record mid {
               hand = None;
               flows = visit.word i;
@@ -278,38 +346,41 @@ module _ (given : Setup) (filters first start id : ℕ) (mid q : Poller) (turns 
               accepted = q.accepted;
             })))
             steered_is;
-        stores = λ noted before. visit_stores given filters mid.queue mid.flows q.flows mid.table
-            q.table mid.accepted q.accepted turn old new hint_old hint_new steers.visit turns noted
-            before;
+        stores = λ noted before. visit_stores given filters mid.queue
+            (last_flows first start x.polled) q.flows (polled_table first start x.polled) q.table
+            mid.accepted q.accepted turn old new hint_old steers.hint_mid hint_new steers.word
+            (subst (λ n. LoadsQueue n steers.word hint_old steers.hint_mid) (sym steers.id_is)
+            steers.loads) steers.announced visit turns marks noted before;
       }
 
 -- ---- a poll
 
-waits_on : (given : Setup) (filters first start : ℕ) (mid q : Poller) (turns : List (StepBy Turn))
-    (old new : BoardSeatView) (hint_old hint_new : Hint) → Waits mid q old new hint_old hint_new
-    → Explained old.steps turns → IsPolling given first start mid turns hint_old.steps
-    → PollsOn given filters first start mid q turns new hint_old hint_new
-waits_on given filters first start mid q turns old new hint_old hint_new waits explained x =
-    record {
-      more = turns;
-      grow = inl refl;
-      explained = still (without_reason waits.steps);
-      keeps = subst (λ (z : Poller × List HintStep). IsPolling given first start z.0 turns z.1)
-          (λ i. (
-            sym waits.same i,
-            sym (ap (λ (h : Hint). h.steps) waits.hint) i,
-          )) x;
-      stores = λ noted before. subst (StoresAreFor given filters turns noted)
-          (sym (ap (λ (h : Hint). h.steps) waits.hint)) before;
-    }
-  where
-    still : (new ≡ old) ⊎ ((word : ℕ) × Adds (Gate Left ∷ Gate (Turned word) ∷ []) old new)
-        → Explained new.steps turns
-    still (inl same) =
-        subst (λ ds. Explained ds turns) (sym (ap (λ (s : BoardSeatView). s.steps) same)) explained
-    still (inr (word, adds)) =
-        subst (λ ds. Explained ds turns) (sym (ap (λ (s : BoardSeatView). s.steps) adds))
-        (explained_more (Gate Left ∷ Gate (Turned word) ∷ []) old.steps turns refl explained)
+module _ (given : Setup) (filters first start : ℕ) (mid q : Poller) (turns : List (StepBy Turn))
+    (marks : List (StepBy Mark)) (old new : BoardSeatView) (hint_old hint_new : Hint) where
+  still : (new ≡ old) ⊎ FindsClosed old new → Explained old.steps turns
+      → Explained new.steps turns
+  still (inl same) explained =
+      subst (λ (s : BoardSeatView). Explained s.steps turns) (sym same) explained
+  still (inr closed) explained =
+      subst (λ ds. Explained ds turns) (sym (ap (λ (s : BoardSeatView). s.steps) closed.1))
+      (explained_more (Gate Left ∷ Gate (Turned closed.0) ∷ []) old.steps turns refl explained)
+
+  waits_on : Waits mid q old new hint_old hint_new → Explained old.steps turns
+      → IsPolling given first start mid turns marks hint_old.steps
+      → PollsOn given filters first start mid q turns marks new hint_old hint_new
+  waits_on waits explained x =
+      let loads = waits_load mid q old new hint_old hint_new waits in record {
+        more = turns;
+        grow = inl refl;
+        more_marks = marks;
+        marks_grow = inl refl;
+        explained = still (waits_at_board mid q old new hint_old hint_new waits) explained;
+        keeps = subst (λ z. IsPolling given first start z turns marks hint_new.steps)
+            (sym waits.same)
+            (pollers_stay given first start mid turns turns marks marks hint_old.steps
+            hint_new.steps refl refl (load_grow hint_old hint_new loads) x);
+        stores = λ noted. at_most_stores given filters turns marks noted hint_old hint_new loads;
+      }
 
 -- the number in hand after a take names a packet
 taken_within : (cpus : ℕ) (p mid : Poller) (took : Bool) → Takes p mid took → IsPoller cpus p
@@ -326,13 +397,13 @@ taken_within cpus p mid true (x, empty, ring, hand) is =
     by_test false less = tt
 
 pub pollers_go_on : PollersGoOn
-pollers_go_on given cpus filters first start p q turns old new hint_old hint_new polls is explained
-    x =
+pollers_go_on given cpus filters first start p q turns marks old new hint_old hint_new polls is
+    explained x =
     from_mid (by_case polls.steers)
   where
-    mid_is : IsPolling given first start polls.mid turns hint_old.steps
-    mid_is = took_is given first start p polls.mid turns hint_old.steps polls.took polls.takes
-        polls.same x
+    mid_is : IsPolling given first start polls.mid turns marks hint_old.steps
+    mid_is = took_is given first start p polls.mid turns marks hint_old.steps polls.took
+        polls.takes polls.same x
 
     queue : polls.mid.queue ≡ p.queue
     queue = ap (λ (z : Poller). z.queue) polls.same
@@ -346,21 +417,22 @@ pollers_go_on given cpus filters first start p q turns old new hint_old hint_new
     by_case : Waits polls.mid q old new hint_old hint_new
         ⊎ ((id : ℕ) × (polls.mid.hand ≡ Some id)
         × SteersHand given filters id polls.mid q old new hint_old hint_new)
-        → PollsOn given filters first start polls.mid q turns new hint_old hint_new
+        → PollsOn given filters first start polls.mid q turns marks new hint_old hint_new
     by_case (inl waits) =
-        waits_on given filters first start polls.mid q turns old new hint_old hint_new waits
-        explained
-        mid_is
+        waits_on given filters first start polls.mid q turns marks old new hint_old hint_new waits
+        explained mid_is
     by_case (inr (id, hand, steers)) =
-        steers_on given filters first start id polls.mid q turns old new hint_old hint_new hand
-        (within id hand) steers mid_is explained
+        steers_on given filters first start id polls.mid q turns marks old new hint_old hint_new
+        hand (within id hand) steers mid_is explained
 
-    from_mid : PollsOn given filters first start polls.mid q turns new hint_old hint_new
-        → PollsOn given filters first start p q turns new hint_old hint_new
+    from_mid : PollsOn given filters first start polls.mid q turns marks new hint_old hint_new
+        → PollsOn given filters first start p q turns marks new hint_old hint_new
     from_mid on =
         record {
           more = on.more;
           grow = subst (λ a. TurnsGrow a turns on.more) queue on.grow;
+          more_marks = on.more_marks;
+          marks_grow = subst (λ a. TurnsGrow a marks on.more_marks) queue on.marks_grow;
           explained = on.explained;
           keeps = on.keeps;
           stores = on.stores;

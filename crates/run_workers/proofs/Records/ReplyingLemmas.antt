@@ -20,10 +20,12 @@ use Rattle.hop_rule.specs.declared.step.LaneStep.TheVariants.{OutHeld}
 use Rattle.hop_rule.proofs.Lists.{none-some}
 use Rattle.board_api.specs.Seats.{BoardSeatView, Adds}
 use Rattle.hop_delivery.specs.Orders.Turns.{Explained, Turn}
-use Rattle.steer_model.specs.State.Setup.{Setup}
+use Rattle.steer_base.specs.Choices.{class_of}
+use Rattle.steer_model.specs.State.Setup.{Setup, packet_hash}
+use Rattle.run_words.specs.Lists.{oldest_first}
+use Rattle.run_words.specs.Values.{socket_size_in}
 use Rattle.run_workers.specs.Hands.Servers.{BacksOut, IsServer, KeepsHand, LeavesInbox, Queued}
-use Rattle.run_workers.specs.Hands.Servers.{Replies}
-use Rattle.run_workers.specs.Hands.Servers.{RepliesToHand, TakesNext}
+use Rattle.run_workers.specs.Hands.Servers.{Replies, RepliesToHand, TakesNext}
 use Rattle.run_workers.specs.declared.server.Server.{Server}
 use Rattle.run_workers.proofs.Hands.ServerLaws.{applications_explain}
 use Rattle.run_workers.specs.Records.Growth.{Grows, held}
@@ -33,18 +35,19 @@ use Rattle.run_workers.specs.Records.Replying.{IsReplied}
 use Rattle.run_workers.specs.Records.Replying.{IsReplying, RepliedTurn, replied_table}
 use Rattle.run_workers.specs.Records.Replying.{taken_by}
 use Rattle.run_workers.specs.Records.ReplyingLaws.{ArrivalsComeLate, RepliesGoOn, RepliesOn}
-use Rattle.run_workers.specs.Records.ReplyingLaws.{ServersBegin}
-use Rattle.run_workers.specs.Records.ReplyingLaws.{ServersStay, TakesGoOn}
-use Rattle.run_workers.proofs.Records.HeldLemmas.{came_later, came_with, found_later, queued_there}
-use Rattle.run_workers.proofs.Records.HeldLemmas.{stands_there, stood_later, writes_grow}
-use Rattle.run_workers.proofs.Records.HeldLemmas.{writes_later}
+use Rattle.run_workers.specs.Records.ReplyingLaws.{ServersBegin, ServersStay, TakesGoOn, TakesOn}
+use Rattle.run_workers.specs.Records.Storing.{NotesGrow}
+use Rattle.run_workers.specs.Records.Words.{Note}
+use Rattle.run_workers.proofs.Records.HeldLemmas.{NotedFor, came_later, came_with, found_later}
+use Rattle.run_workers.proofs.Records.HeldLemmas.{queued_there, stands_there, stood_later}
+use Rattle.run_workers.proofs.Records.HeldLemmas.{writes_grow, writes_later}
 use Rattle.run_workers.proofs.Records.HeldLemmas.{writes_more, writes_there}
-use Rattle.run_workers.proofs.Records.HintLemmas.{steps_one, steps_same}
+use Rattle.run_workers.proofs.Records.HintLemmas.{leaves_load, load_grow, steps_one, steps_same}
 use Rattle.run_workers.proofs.Records.ListLemmas.{append_none, contains_later, get_last, grows_both}
 use Rattle.run_workers.proofs.Records.ListLemmas.{grows_same, noted_more}
 use Rattle.run_workers.proofs.Records.ListLemmas.{own_turn}
 use Rattle.run_workers.proofs.Records.WordLemmas.{AreRead, words_of}
-use Rattle.run_workers.proofs.Hands.DeltaLemmas.{without_reasons}
+use Rattle.run_workers.proofs.Hands.WaitLemmas.{leaves_at_board}
 
 abbrev Hint : Type 0
 Hint = SeatView HintStep
@@ -114,7 +117,8 @@ module _ (rows start : ℕ) (given : Setup) (packets app home : ℕ) (arrivals :
   all_with ds (r ∷ rs) all = (replied_with ds rs r all.0, all_with ds rs all.1)
 
 pub servers_begin : ServersBegin
-servers_begin given rows start arrivals s turns rx hints hand table sent choices writes own =
+servers_begin given rows start arrivals s turns noted rx hints hand table sent choices writes own
+    own_notes =
     let none : taken_by s ≡ [] = λ i. ids (sent i) ++ held (hand i) in
     record {
       replied = [];
@@ -123,14 +127,17 @@ servers_begin given rows start arrivals s turns rx hints hand table sent choices
       choices = choices ∙ sym (ap choices_in own);
       table = table;
       found = λ k id at. none-some id (sym (ap (λ xs. slice_get xs k) none) ∙ at);
-      writes =
-          subst (λ xs. HasWrittenAll given s.app s.home rx hints xs s.writes.items) (sym none)
-          writes;
+      notes =
+          subst (λ xs. HasWrittenAll given s.app s.home rx hints xs
+          (oldest_first (steps_of s.app noted))) (sym none) (ap oldest_first own_notes);
+      writes = writes
+          ∙ sym (ap (λ ns. map (λ (n : Note). n.write) (oldest_first ns)) own_notes);
       are = tt;
     }
 
 pub servers_stay : ServersStay
-servers_stay given rows start arrivals s turns more rx rx_after hints after same rx_grow grow x =
+servers_stay given rows start arrivals s turns more noted more_notes rx rx_after hints after same
+    same_notes rx_grow grow x =
     record {
       replied = x.replied;
       own = x.own ∙ sym same;
@@ -138,14 +145,18 @@ servers_stay given rows start arrivals s turns more rx rx_after hints after same
       choices = x.choices ∙ sym (ap choices_in same);
       table = x.table;
       found = λ k id at. found_later rx rx_after s.app k id rx_grow (x.found k id at);
-      writes = writes_later given s.app s.home rx rx_after hints after rx_grow grow (taken_by s)
-          s.writes.items x.writes;
+      notes = subst (λ ns. HasWrittenAll given s.app s.home rx_after after (taken_by s)
+          (oldest_first ns)) (sym same_notes)
+          (writes_later given s.app s.home rx rx_after hints after rx_grow grow (taken_by s)
+          (oldest_first (steps_of s.app noted)) x.notes);
+      writes = x.writes
+          ∙ sym (ap (λ ns. map (λ (n : Note). n.write) (oldest_first ns)) same_notes);
       are = all_later rows start given s.sent.room s.app s.home arrivals hints after grow x.replied
           x.are;
     }
 
 pub arrivals_come : ArrivalsComeLate
-arrivals_come given rows start arrivals s turns rx hints x =
+arrivals_come given rows start arrivals s turns noted rx hints x =
     record {
       replied = x.replied;
       own = x.own;
@@ -153,6 +164,7 @@ arrivals_come given rows start arrivals s turns rx hints x =
       choices = x.choices;
       table = x.table;
       found = x.found;
+      notes = x.notes;
       writes = x.writes;
       are = all_with rows start given s.sent.room s.app s.home arrivals hints x.replied x.are;
     }
@@ -169,26 +181,37 @@ gate_grow old new (inl same) =
     grows_same old.steps new.steps (ap (λ (v : BoardSeatView). v.steps) same)
 gate_grow old new (inr out) = adds_grow (Gate Left ∷ Gate (Turned out.0) ∷ []) old new out.1
 
+pub leaves_grow : (about : BoardSizes) (s t : Server) (old new : BoardSeatView)
+    (hint_old hint_new : Hint) → LeavesInbox about s t old new hint_old hint_new
+    → Grows old.steps new.steps × Grows hint_old.steps hint_new.steps
+leaves_grow about s t old new hint_old hint_new leaves = (
+  grows_both old.steps leaves.mid.steps new.steps
+      (adds_grow leaves.looks.added old leaves.mid leaves.looks.adds)
+      (gate_grow leaves.mid new (leaves_at_board about s t old new hint_old hint_new leaves)),
+  load_grow hint_old hint_new (leaves_load about s t old new hint_old hint_new leaves),
+)
+
 -- ---- taking
 
 module _ (about : BoardSizes) (given : Setup) (rows start : ℕ) (arrivals : List Arrival)
-    (s t : Server) (turns : List (StepBy Turn)) (old new : BoardSeatView)
-    (hint_old hint_new : Hint) where
+    (s t : Server) (turns : List (StepBy Turn)) (noted : List (StepBy Note))
+    (old new : BoardSeatView) (hint_old hint_new : Hint) where
   takes_nothing : LeavesInbox about s t old new hint_old hint_new
-      → IsReplying given rows start arrivals s turns old.steps hint_old.steps
-      → IsReplying given rows start arrivals t turns new.steps hint_new.steps
+      → IsReplying given rows start arrivals s turns noted old.steps hint_old.steps
+      → TakesOn given rows start arrivals s t turns noted new hint_new
   takes_nothing leaves x =
-      subst (λ z. IsReplying given rows start arrivals z turns new.steps hint_new.steps)
-      (sym leaves.same)
-      (servers_stay given rows start arrivals s turns turns old.steps new.steps hint_old.steps
-      hint_new.steps refl
-      (grows_both old.steps leaves.mid.steps new.steps
-      (adds_grow leaves.looks.added old leaves.mid leaves.looks.adds)
-      (gate_grow leaves.mid new (without_reasons leaves.gate)))
-      (steps_same hint_old hint_new leaves.hint) x)
+      let grow = leaves_grow about s t old new hint_old hint_new leaves in
+      record {
+        more = noted;
+        grow = inl (refl, ap (λ (z : Server). z.writes.items) leaves.same);
+        keeps = subst (λ z. IsReplying given rows start arrivals z turns noted new.steps
+            hint_new.steps) (sym leaves.same)
+            (servers_stay given rows start arrivals s turns turns noted noted old.steps new.steps
+            hint_old.steps hint_new.steps refl refl grow.0 grow.1 x);
+      }
 
   module _ (takes : TakesNext about given s t old new hint_old hint_new)
-      (x : IsReplying given rows start arrivals s turns old.steps hint_old.steps) where
+      (x : IsReplying given rows start arrivals s turns noted old.steps hint_old.steps) where
     were : taken_by s ≡ ids s.sent.items
     were = ap (λ h. ids s.sent.items ++ held h) takes.empty ∙ append_none (ids s.sent.items)
 
@@ -204,8 +227,11 @@ module _ (about : BoardSizes) (given : Setup) (rows start : ℕ) (arrivals : Lis
     rx_grow = grows_both old.steps takes.mid.steps new.steps found_grow visit_grow
 
     hints_grow : Grows hint_old.steps hint_new.steps
-    hints_grow = writes_grow given.cpus s.app s.home _ s.writes t.writes hint_old hint_new
-        takes.records.writes
+    hints_grow =
+        grows_both hint_old.steps takes.hint_mid.steps hint_new.steps
+        (steps_one _ hint_old takes.hint_mid takes.loads)
+        (writes_grow given.cpus s.app s.home _ s.writes t.writes takes.hint_mid hint_new
+        takes.records.writes)
 
     found_now : HasFound new.steps s.app (length s.sent.items) takes.id
     found_now =
@@ -246,42 +272,75 @@ module _ (about : BoardSizes) (given : Setup) (rows start : ℕ) (arrivals : Lis
           in_visit = refl;
         }
 
-    written_now : HasWrittenAll given s.app s.home new.steps hint_new.steps
-        (ids s.sent.items ++ takes.id ∷ []) t.writes.items
-    written_now =
-        let w = writes_there given s.app s.home new.steps _ s.writes t.writes hint_old hint_new
-        takes.records.writes in
-        subst (HasWrittenAll given s.app s.home new.steps hint_new.steps
-        (ids s.sent.items ++ takes.id ∷ [])) (sym w.2)
-        (writes_more given s.app s.home new.steps hint_new.steps (ids s.sent.items)
-        s.writes.items takes.id takes.records.size w.0
-        (subst (λ zs. HasWrittenAll given s.app s.home new.steps hint_new.steps zs s.writes.items)
-        were
-        (writes_later given s.app s.home old.steps new.steps hint_old.steps hint_new.steps rx_grow
-        hints_grow (taken_by s) s.writes.items x.writes))
-        read_now w.1)
+    abbrev entry : Option ℕ
+    entry = class_of (socket_size_in takes.records.size) (packet_hash given takes.id)
 
-    takes_one : IsReplying given rows start arrivals t turns new.steps hint_new.steps
+    abbrev noted_for : NotedFor given s.app s.home takes.id new.steps entry s.writes t.writes
+        hint_new.steps noted
+    noted_for =
+        writes_there given s.app s.home takes.id new.steps entry s.writes t.writes takes.hint_mid
+        hint_new noted takes.records.writes
+
+    abbrev notes : List Note
+    notes = oldest_first (steps_of s.app noted)
+
+    written_now : HasWrittenAll given s.app s.home new.steps hint_new.steps
+        (ids s.sent.items ++ takes.id ∷ []) (oldest_first (steps_of s.app noted_for.more))
+    written_now =
+        subst (HasWrittenAll given s.app s.home new.steps hint_new.steps
+        (ids s.sent.items ++ takes.id ∷ [])) (sym noted_for.notes)
+        (writes_more given s.app s.home new.steps hint_new.steps (ids s.sent.items) notes takes.id
+        takes.records.size noted_for.last
+        (subst (λ zs. HasWrittenAll given s.app s.home new.steps hint_new.steps zs notes) were
+        (writes_later given s.app s.home old.steps new.steps hint_old.steps hint_new.steps rx_grow
+        hints_grow (taken_by s) notes x.notes))
+        read_now noted_for.has)
+
+    writes_now : t.writes.items
+        ≡ map (λ (n : Note). n.write) (oldest_first (steps_of s.app noted_for.more))
+    writes_now =
+        noted_for.journal
+        ∙ (ap (λ ws. ws ++ map (λ (n : Note). n.write) noted_for.last) x.writes
+        ∙ (sym (map-append (λ (n : Note). n.write) notes noted_for.last)
+        ∙ sym (ap (map (λ (n : Note). n.write)) noted_for.notes)))
+
+    notes_grow : NotesGrow s t noted noted_for.more
+    notes_grow = elim noted_for.grow [
+      | inl same ↦ inl same
+      | inr (n, packet, journal, more) ↦ inr (
+        n,
+        ap (λ (z : Server). z.hand) takes.same ∙ ap (λ y. Some y) (sym packet),
+        journal,
+        more,
+      )
+    ]
+
+    takes_one : TakesOn given rows start arrivals s t turns noted new hint_new
     takes_one =
-        subst (λ z. IsReplying given rows start arrivals z turns new.steps hint_new.steps)
-        (sym takes.same) (record {
-          replied = x.replied;
-          own = x.own;
-          replies = x.replies;
-          choices = x.choices;
-          table = x.table;
-          found = found_all;
-          writes = written_now;
-          are = all_later rows start given s.sent.room s.app s.home arrivals hint_old.steps
-              hint_new.steps
-              hints_grow x.replied x.are;
-        })
+        record {
+          more = noted_for.more;
+          grow = notes_grow;
+          keeps = subst (λ z. IsReplying given rows start arrivals z turns noted_for.more new.steps
+              hint_new.steps) (sym takes.same) (record {
+                replied = x.replied;
+                own = x.own;
+                replies = x.replies;
+                choices = x.choices;
+                table = x.table;
+                found = found_all;
+                notes = written_now;
+                writes = writes_now;
+                are = all_later rows start given s.sent.room s.app s.home arrivals hint_old.steps
+                    hint_new.steps hints_grow x.replied x.are;
+              });
+        }
 
 pub takes_go_on : TakesGoOn
-takes_go_on about given rows start arrivals s t true turns old new hint_old hint_new takes x =
-    takes_one about given rows start arrivals s t turns old new hint_old hint_new takes x
-takes_go_on about given rows start arrivals s t false turns old new hint_old hint_new takes x =
-    takes_nothing about given rows start arrivals s t turns old new hint_old hint_new takes x
+takes_go_on about given rows start arrivals s t true turns noted old new hint_old hint_new takes x =
+    takes_one about given rows start arrivals s t turns noted old new hint_old hint_new takes x
+takes_go_on about given rows start arrivals s t false turns noted old new hint_old hint_new takes
+    x =
+    takes_nothing about given rows start arrivals s t turns noted old new hint_old hint_new takes x
 
 -- ---- replying
 
@@ -292,21 +351,22 @@ kept_grow queues late None old new queue queued none = steps_same old new (none 
 kept_grow queues late (Some id) old new queue queued none = steps_one _ old new queued.2
 
 module _ (given : Setup) (rows start : ℕ) (arrivals late : List Arrival) (s t : Server)
-    (turns : List (StepBy Turn)) (rx : List BoardStep) (old new : BoardSeatView)
-    (hint_old hint_new : Hint)
-    (x : IsReplying given rows start arrivals s turns rx hint_old.steps) where
+    (turns : List (StepBy Turn)) (noted : List (StepBy Note)) (rx : List BoardStep)
+    (old new : BoardSeatView) (hint_old hint_new : Hint)
+    (x : IsReplying given rows start arrivals s turns noted rx hint_old.steps) where
   keeps_on : KeepsHand (length given.homes) late s t old new hint_old hint_new
-      → Explained old.steps turns → RepliesOn given rows start arrivals s t turns rx new hint_new
+      → Explained old.steps turns
+      → RepliesOn given rows start arrivals s t turns noted rx new hint_new
   keeps_on keeps explained =
       record {
         more = turns;
         grow = inl refl;
         explained = applications_explain.keeps (length given.homes) late s t old new hint_old
             hint_new keeps turns explained;
-        keeps = subst (λ z. IsReplying given rows start arrivals z turns rx hint_new.steps)
+        keeps = subst (λ z. IsReplying given rows start arrivals z turns noted rx hint_new.steps)
             (sym keeps.same)
-            (servers_stay given rows start arrivals s turns turns rx rx hint_old.steps
-            hint_new.steps refl (grows_same rx rx refl)
+            (servers_stay given rows start arrivals s turns turns noted noted rx rx hint_old.steps
+            hint_new.steps refl refl (grows_same rx rx refl)
             (kept_grow (length given.homes) late s.hand hint_old hint_new keeps.queue keeps.hint
             keeps.untouched) x);
       }
@@ -383,7 +443,7 @@ module _ (given : Setup) (rows start : ℕ) (arrivals late : List Arrival) (s t 
       table = t.table;
       sent = grown s.sent sent;
       choices = grown s.choices turn.chosen;
-    }) (step_by s.app turn ∷ turns) rx hint_new.steps
+    }) (step_by s.app turn ∷ turns) noted rx hint_new.steps
     keeps_more =
         record {
           replied = replied_turn ∷ x.replied;
@@ -395,11 +455,13 @@ module _ (given : Setup) (rows start : ℕ) (arrivals late : List Arrival) (s t 
               ∙ sym (ap choices_in (own_turn s.app turn turns)));
           table = by_table.table;
           found = λ k y at. x.found k y (ap (λ zs. slice_get zs k) taken_same ∙ at);
-          writes = subst (λ zs. HasWrittenAll given s.app s.home rx hint_new.steps zs
-              s.writes.items)
+          notes = subst (λ zs. HasWrittenAll given s.app s.home rx hint_new.steps zs
+              (oldest_first (steps_of s.app noted)))
               taken_same
               (writes_later given s.app s.home rx rx hint_old.steps hint_new.steps
-              (grows_same rx rx refl) hints_more (taken_by s) s.writes.items x.writes);
+              (grows_same rx rx refl) hints_more (taken_by s)
+              (oldest_first (steps_of s.app noted)) x.notes);
+          writes = x.writes;
           are = (
             is_replied,
             all_later rows start given s.sent.room s.app s.home arrivals hint_old.steps
@@ -409,7 +471,7 @@ module _ (given : Setup) (rows start : ℕ) (arrivals late : List Arrival) (s t 
         }
 
     replies_on : Explained old.steps turns
-        → RepliesOn given rows start arrivals s t turns rx new hint_new
+        → RepliesOn given rows start arrivals s t turns noted rx new hint_new
     replies_on explained =
         record {
           more = step_by s.app turn ∷ turns;
@@ -417,7 +479,7 @@ module _ (given : Setup) (rows start : ℕ) (arrivals late : List Arrival) (s t 
           explained = applications_explain.replies given s.app s.home sent s.table t.table turn
               old new replied.hint_mid hint_new replied.replies turns explained;
           keeps = subst (λ z. IsReplying given rows start arrivals z (step_by s.app turn ∷ turns)
-              rx hint_new.steps)
+              noted rx hint_new.steps)
               (sym (replied.same ∙ (λ i. record s {
                 hand = None;
                 table = t.table;
@@ -428,10 +490,11 @@ module _ (given : Setup) (rows start : ℕ) (arrivals late : List Arrival) (s t 
         }
 
 pub replies_go_on : RepliesGoOn
-replies_go_on given rows start arrivals late s t true turns rx old new hint_old hint_new replied
-    is known explained x =
-    replies_on given rows start arrivals late s t turns rx old new hint_old hint_new x replied is
-    known explained
-replies_go_on given rows start arrivals late s t false turns rx old new hint_old hint_new keeps is
-    known explained x =
-    keeps_on given rows start arrivals late s t turns rx old new hint_old hint_new x keeps explained
+replies_go_on given rows start arrivals late s t true turns noted rx old new hint_old hint_new
+    replied is known explained x =
+    replies_on given rows start arrivals late s t turns noted rx old new hint_old hint_new x replied
+    is known explained
+replies_go_on given rows start arrivals late s t false turns noted rx old new hint_old hint_new
+    keeps is known explained x =
+    keeps_on given rows start arrivals late s t turns noted rx old new hint_old hint_new x keeps
+    explained

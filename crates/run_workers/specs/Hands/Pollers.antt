@@ -1,6 +1,6 @@
 -- What a poller reads in a visit of the receive board, and by what it chooses a processor for a
 -- packet (kernel scaling chapter, sections RPS and RFS).
-use Rattle.std.specs.Prelude.{◌≡◌, ◌⊎◌, ℕ, ◌+◌, ◌*◌, ◌<◌, ◌≤◌, ◌==◌, Bool, true, false}
+use Rattle.std.specs.Prelude.{◌≡◌, ◌≢◌, ◌⊎◌, ℕ, ◌+◌, ◌*◌, ◌<◌, ◌≤◌, ◌==◌, Bool, true, false}
 use Rattle.std.specs.Prelude.{List, [], ◌∷◌, ◌++◌, Option, Some, nat_lt}
 use Rattle.std.specs.Prelude.{None, length, slice_index, unwrap_or, IfSome, IsSome, if◌then◌else◌}
 use Rattle.std.specs.List.{Contains}
@@ -36,7 +36,11 @@ use Rattle.board_api.specs.StepWords.{is_marked, low_half}
 use Rattle.hop_delivery.specs.Orders.Turns.{AreQuiet, Turn, visit_with}
 use Rattle.steer_model.specs.State.Setup.{Setup, packet_hash}
 use Rattle.steer_model.specs.Steps.Pollers.{filter_for}
+use Rattle.run_words.specs.HintViews.{after_step}
+use Rattle.run_words.specs.Numbers.{hint_number}
 use Rattle.run_words.specs.Values.{cpus_in, filter_word, flows_in, place_in, socket_size_in}
+use Rattle.run_words.specs.declared.hint_word.HintWord.TheVariants as word
+use Rattle.run_words.specs.declared.values.TheConstants.{STEERED}
 use Rattle.run_words.specs.declared.hint_word.TheConstants.{FILTER_WORDS}
 use Rattle.run_workers.specs.Hands.Deltas.{HoldsNoMore, LeavesLane}
 use Rattle.run_workers.specs.declared.poller.Poller.{Poller}
@@ -150,6 +154,25 @@ pub record Chooses (given : Setup) (q id flows seen : ℕ) (before after : Table
       (class_read given id (refreshed flows reading.flows before)) choice
   pub word : seen ≡ reading.flows
 
+-- ---- the packet's own words
+
+-- The word of the packet's receive queue was loaded, and nothing else was done.
+abbrev pub LoadsQueue : (id value : ℕ) → SeatView HintStep → SeatView HintStep → Type 0
+LoadsQueue id value old new = new ≡ after_step (Load (hint_number (word.Queue id)) value) old
+
+-- The packet in a hand was found announced: its word was set. Or none was: the hand was empty, or
+-- the word of its packet was 0.
+abbrev pub FindsAnnounced : (hand found : Option ℕ) → SeatView HintStep → SeatView HintStep
+    → Type 0
+FindsAnnounced hand None old new =
+    ((hand ≡ None) × (new ≡ old)) ⊎ ((id : ℕ) × (hand ≡ Some id) × LoadsQueue id 0 old new)
+FindsAnnounced hand (Some id) old new =
+    (hand ≡ Some id) × (value : ℕ) × LoadsQueue id value old new × (value ≢ 0)
+
+-- The packet was marked as steered.
+abbrev pub Marks : ℕ → SeatView HintStep → SeatView HintStep → Type 0
+Marks id old new = new ≡ after_step (Store (hint_number (word.Steered id)) STEERED) old
+
 -- ---- the put
 
 -- The filter was stored at the place of the packet's hash, if there are both; otherwise nothing was
@@ -193,18 +216,21 @@ pub record Puts (given : Setup) (filters id : ℕ) (choice : Choice) (answer : P
 
 -- ---- a turn
 
--- A poller steered a packet, in a visit: it chose a processor, and put the packet there.
+-- A poller steered a packet, in a visit: it chose a processor, marked the packet as steered, and
+-- put it there.
 pub record Steers (given : Setup) (filters q flows seen : ℕ) (before after : Table)
     (count_old count_new : ℕ) (chosen : Chosen) (old new : BoardSeatView)
     (hint_old hint_new : SeatView HintStep) : Type 0 where
   pub between : Table
   pub mid : BoardSeatView
   pub hint_mid : SeatView HintStep
+  pub hint_marked : SeatView HintStep
   pub answer : Put
   pub chooses : Chooses given q chosen.id flows seen before between chosen.choice old mid hint_old
       hint_mid
+  pub marks : Marks chosen.id hint_mid hint_marked
   pub puts : Puts given filters chosen.id chosen.choice answer between after count_old count_new
-      mid new hint_mid hint_new
+      mid new hint_marked hint_new
 
 -- the turn as a flow table is told of it
 abbrev pub as_told : Turn → Placement
@@ -225,6 +251,7 @@ pub record Visits (given : Setup) (filters q flows seen : ℕ) (before after : T
   pub want : Option ℕ
   pub head : Option ℕ
   pub hint_mid : SeatView HintStep
+  pub hint_marked : SeatView HintStep
   pub reads : (d : BoardStep) → Contains (read_steps (length given.homes) q reading) d
       → Contains turn.early d
   pub looks : LooksUp given.cpus
@@ -241,7 +268,8 @@ pub record Visits (given : Setup) (filters q flows seen : ℕ) (before after : T
   pub table : after ≡ after_turn (refreshed flows reading.flows before) (as_told turn)
   pub word : seen ≡ reading.flows
   pub count : count_new ≡ count_after count_old turn.answer
-  pub asks : AsksFilter given filters turn.chosen.id turn.chosen.choice turn.answer hint_mid
+  pub marks : Marks turn.chosen.id hint_mid hint_marked
+  pub asks : AsksFilter given filters turn.chosen.id turn.chosen.choice turn.answer hint_marked
       hint_new
 
 -- ---- a poll
@@ -271,34 +299,48 @@ abbrev pub TakesNone : Poller → Poller → Type 0
 TakesNone p q =
     IsSome p.hand ⊎ (p.choices.room ≤ length p.choices.items) ⊎ (known_items q.ring ≡ [])
 
--- A poller steered nothing and keeps its hand: the hand was empty, or its seat found the gate
--- closed and backed out.
+-- The seat found the gate closed and backed out.
+abbrev pub FindsClosed : BoardSeatView → BoardSeatView → Type 0
+FindsClosed old new = (word : ℕ) × Adds (Gate Left ∷ Gate (Turned word) ∷ []) old new
+
+-- A poller steered nothing and keeps its hand: the hand was empty; or its packet was not announced,
+-- so nothing was done at the board; or it was, and the gate was closed.
 pub record Waits (p q : Poller) (old new : BoardSeatView) (hint_old hint_new : SeatView HintStep)
     : Type 0 where
   pub same : q ≡ p
-  pub hint : hint_new ≡ hint_old
-  pub steps : ((p.hand ≡ None) × (new ≡ old))
-      ⊎ ((word : ℕ) × Adds (Gate Left ∷ Gate (Turned word) ∷ []) old new)
+  pub steps : ((p.hand ≡ None) × (hint_new ≡ hint_old) × (new ≡ old))
+      ⊎ ((id : ℕ) × (p.hand ≡ Some id) × LoadsQueue id 0 hint_old hint_new × (new ≡ old))
+      ⊎ ((id : ℕ) × (word : ℕ) × (p.hand ≡ Some id) × LoadsQueue id word hint_old hint_new
+      × (word ≢ 0) × FindsClosed old new)
 
 -- Neither was a number taken nor a packet steered.
 abbrev pub DoesNothing : Poller → Poller → Type 0
 DoesNothing p q = (received q.ring ≡ received p.ring) × (q.choices ≡ p.choices)
 
--- A poller steered the packet in its hand in one visit, and noted the choice.
+-- A poller has the queue and the ring that it had, and its hand is empty.
+abbrev pub EmptiesHand : Poller → Poller → Type 0
+EmptiesHand p q =
+    q ≡ record p {
+      hand = None;
+      flows = q.flows;
+      table = q.table;
+      choices = q.choices;
+      accepted = q.accepted;
+    }
+
+-- A poller found the packet in its hand announced, steered it in one visit, and noted the choice.
 pub record SteersHand (given : Setup) (filters id : ℕ) (p q : Poller) (old new : BoardSeatView)
     (hint_old hint_new : SeatView HintStep) : Type 0 where
   pub turn : Turn
   pub id_is : turn.chosen.id ≡ id
+  pub word : ℕ
+  pub hint_mid : SeatView HintStep
+  pub loads : LoadsQueue id word hint_old hint_mid
+  pub announced : word ≢ 0
   pub visit : Visits given filters p.queue p.flows q.flows p.table q.table p.accepted q.accepted
-      turn old new hint_old hint_new
+      turn old new hint_mid hint_new
   pub choices : q.choices ≡ grown p.choices turn.chosen
-  pub same : q ≡ record p {
-    hand = None;
-    flows = q.flows;
-    table = q.table;
-    choices = q.choices;
-    accepted = q.accepted;
-  }
+  pub same : EmptiesHand p q
 
 -- A poller took a number or none, and then steered the packet in its hand in one visit, or nothing.
 pub record Polls (given : Setup) (filters : ℕ) (p q : Poller) (old new : BoardSeatView)

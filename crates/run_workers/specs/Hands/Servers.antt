@@ -1,12 +1,11 @@
 -- What an application does at its boards: it takes the packets of its inbox in order, records where
 -- it runs in the socket flow table (kernel scaling chapter, section RFS), and replies by the maps
 -- of the transmit queues (section XPS).
-use Rattle.std.specs.Prelude.{◌≡◌, ◌⊎◌, ℕ, ◌+◌, ◌*◌, ◌<◌, ◌≤◌, ◌==◌, Bool, true, false}
+use Rattle.std.specs.Prelude.{◌≡◌, ◌≢◌, ◌⊎◌, ℕ, ◌+◌, ◌*◌, ◌<◌, ◌≤◌, ◌==◌, Bool, true, false}
 use Rattle.std.specs.Prelude.{List, [], ◌∷◌, Option, None, Some, IfSome, IsSome, length, unwrap_or}
 use Rattle.std.specs.Prelude.{slice_get, slice_index, slice_index_or, slice_set, if◌then◌else◌}
 use Rattle.std.specs.List.{Contains}
 use Rattle.std.specs.Option.{is_some}
-use Rattle.linearization.specs.Seats.{SeatView}
 use Rattle.steer_base.specs.Choices.{class_of, looks_at_head, migrate}
 use Rattle.steer_base.specs.Counters.{number}
 use Rattle.steer_base.specs.Journals.{Journal, grown}
@@ -19,7 +18,6 @@ use Rattle.history.specs.declared.sock_write.SockWrite.{SockWrite}
 use Rattle.dev_flow_table.specs.Folds.{after_turn, table_after}
 use Rattle.dev_flow_table.specs.Tables.{Table, entries, weighed}
 use Rattle.xps_map.specs.Maps.{Maps, no_cpus, picked}
-use Rattle.hint_words.specs.declared.step.HintStep.{HintStep}
 use Rattle.hint_words.specs.declared.step.HintStep.TheVariants.{Load, Store}
 use Rattle.hop_rule.specs.Boards.{out_slot}
 use Rattle.hop_rule.specs.OutLanes.{OutList}
@@ -33,15 +31,14 @@ use Rattle.board_api.specs.Seats.{BoardSeatView, Adds}
 use Rattle.board_api.specs.StepWords.{is_marked, is_odd, tail_in}
 use Rattle.hop_delivery.specs.Orders.Turns.{AreQuiet, Turn, visit_with}
 use Rattle.steer_model.specs.State.Setup.{Setup, flow_number_of, packet_hash}
+use Rattle.run_words.specs.HintViews.{HintView, after_step}
+use Rattle.run_words.specs.Numbers.{hint_number}
 use Rattle.run_words.specs.Values.{cpus_in, place_in, place_word, queues_in, socket_size_in}
-use Rattle.run_words.specs.declared.hint_word.TheConstants.{QUEUE_WORDS, STAND_WORDS}
+use Rattle.run_words.specs.declared.hint_word.HintWord.TheVariants as word
+use Rattle.run_words.specs.declared.hint_word.TheConstants.{STAND_WORDS}
 use Rattle.run_workers.specs.Hands.Deltas.{HoldsNoMore, LeavesLane, OnlyServes, Serves, no_lane}
 use Rattle.run_workers.specs.Hands.Pollers.{HasLanesBelow, LoadedHead, LoadsHead, as_told, put_of}
 use Rattle.run_workers.specs.declared.server.Server.{Server}
-
--- what contracts see of a seat at the hint words
-abbrev pub HintView : Type 0
-HintView = SeatView HintStep
 
 -- ---- the next packet
 
@@ -116,6 +113,10 @@ pub record Records (given : Setup) (id app home : ℕ) (before after : Journal S
   pub writes : Writes given.cpus app home
       (class_of (socket_size_in size) (packet_hash given id)) before after hint_old hint_new
 
+-- The word was loaded that says whether the packet is steered, and nothing else was done.
+abbrev pub LoadsMark : (id value : ℕ) → HintView → HintView → Type 0
+LoadsMark id value old new = new ≡ after_step (Load (hint_number (word.Steered id)) value) old
+
 -- The gate was closed, and the seat backed out.
 abbrev pub BacksOut : BoardSeatView → BoardSeatView → Type 0
 BacksOut old new = (word : ℕ) × Adds (Gate Left ∷ Gate (Turned word) ∷ []) old new
@@ -127,27 +128,31 @@ HasNoNext about s old new =
     IsSome s.hand ⊎ (s.sent.room ≤ length s.sent.items)
     ⊎ LooksInVain about s.app s.start (length s.sent.items) old new
 
--- An application took nothing: it had nothing to take, or it found its next packet and the gate
--- closed.
+-- An application took nothing: it had nothing to take; or it found its next packet, which was not
+-- marked as steered, so nothing more was done at the board; or it was, and the gate was closed.
 pub record LeavesInbox (about : BoardSizes) (s t : Server) (old new : BoardSeatView)
     (hint_old hint_new : HintView) : Type 0 where
   pub same : t ≡ s
-  pub hint : hint_new ≡ hint_old
   pub mid : BoardSeatView
   pub looks : Serves no_lane old mid
-  pub gate : (HasNoNext about s old mid × (new ≡ mid))
-      ⊎ (((id : ℕ) × Peeks about s.app (length s.sent.items) (Some id) old mid)
-      × BacksOut mid new)
+  pub gate : (HasNoNext about s old mid × (hint_new ≡ hint_old) × (new ≡ mid))
+      ⊎ ((id : ℕ) × (word : ℕ) × Peeks about s.app (length s.sent.items) (Some id) old mid
+      × LoadsMark id word hint_old hint_new
+      × (((word ≡ 0) × (new ≡ mid)) ⊎ ((word ≢ 0) × BacksOut mid new)))
 
 -- An application with an empty hand found its next packet in its inbox, at the index of its number
--- of replies, recorded its flow, and has it in hand.
+-- of replies, and marked as steered; it recorded the packet's flow, and has it in hand.
 pub record TakesNext (about : BoardSizes) (given : Setup) (s t : Server) (old new : BoardSeatView)
     (hint_old hint_new : HintView) : Type 0 where
   pub empty : s.hand ≡ None
   pub id : ℕ
   pub mid : BoardSeatView
   pub peeks : Peeks about s.app (length s.sent.items) (Some id) old mid
-  pub records : Records given id s.app s.home s.writes t.writes mid new hint_old hint_new
+  pub word : ℕ
+  pub hint_mid : HintView
+  pub loads : LoadsMark id word hint_old hint_mid
+  pub marked : word ≢ 0
+  pub records : Records given id s.app s.home s.writes t.writes mid new hint_mid hint_new
   pub same : t ≡ record s { hand = Some id; writes = t.writes }
 
 -- what an application did, by whether it took a packet
@@ -177,8 +182,8 @@ queue_by None late id = late_queue late id
 -- The word of the packet's queue was loaded, and the queue is by it, or else by the list.
 abbrev pub Queued : ℕ → ℕ → List Arrival → HintView → HintView → Option ℕ → Type 0
 Queued queues id late old new queue =
-    (word : ℕ) × (queue ≡ queue_by (place_in word queues) late id)
-    × (new ≡ record old { steps = Load (QUEUE_WORDS + id) word ∷ old.steps })
+    (value : ℕ) × (queue ≡ queue_by (place_in value queues) late id)
+    × (new ≡ after_step (Load (hint_number (word.Queue id)) value) old)
 
 -- ---- the maps
 

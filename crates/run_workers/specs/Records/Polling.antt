@@ -11,12 +11,15 @@ use Rattle.steer_base.specs.declared.choice.Chosen.{Chosen}
 use Rattle.dev_flow_table.specs.Folds.{after_turn}
 use Rattle.dev_flow_table.specs.Tables.{Table, cleared}
 use Rattle.hint_words.specs.declared.step.HintStep.{HintStep}
-use Rattle.hint_words.specs.declared.step.HintStep.TheVariants.{Load}
+use Rattle.hint_words.specs.declared.step.HintStep.TheVariants.{Load, Store}
 use Rattle.hop_rule.specs.Moments.{nth_step}
 use Rattle.hop_rule.specs.declared.step.BoardStep.{BoardStep}
 use Rattle.hop_delivery.specs.Orders.Turns.{Turn}
 use Rattle.steer_model.specs.State.Setup.{Setup, packet_hash}
+use Rattle.run_words.specs.Numbers.{hint_number}
 use Rattle.run_words.specs.Values.{flows_in, place_in, socket_size_in}
+use Rattle.run_words.specs.declared.hint_word.HintWord.TheVariants as hint
+use Rattle.run_words.specs.declared.values.TheConstants.{STEERED}
 use Rattle.run_workers.specs.Hands.Pollers.{LoadedHead, as_told, choice_read, class_read}
 use Rattle.run_workers.specs.Hands.Pollers.{count_after}
 use Rattle.run_workers.specs.Hands.Pollers.{looks_to_head, read_steps, refreshed, socket_entry}
@@ -24,17 +27,25 @@ use Rattle.run_workers.specs.declared.poller.Poller.{Poller}
 use Rattle.run_workers.specs.declared.poller.Reading.{Reading}
 use Rattle.run_words.specs.Lists.{oldest_first}
 use Rattle.run_workers.specs.Records.Growth.{held}
+use Rattle.run_workers.specs.Records.Words.{Mark}
 
--- A turn of a poller, the settings that it read in its visit, and the step of its seat at the hint
--- words by which it looked up the socket flow table, if it did.
+-- A turn of a poller, the settings that it read in its visit, the step of its seat at the hint
+-- words by which it looked up the socket flow table, if it did, and the step by which it marked its
+-- packet.
 pub record PolledTurn : Type 0 where
   pub turn : Turn
   pub reading : Reading
   pub look : Option ℕ
+  pub mark : ℕ
 
 -- the turns alone
 abbrev pub turns_in : List PolledTurn → List Turn
 turns_in polled = map (λ (s : PolledTurn). s.turn) polled
+
+-- the marks of turns
+abbrev pub marks_in : List PolledTurn → List Mark
+marks_in polled =
+    map (λ (s : PolledTurn). record { packet = s.turn.chosen.id; number = s.mark }) polled
 
 -- the choices of turns, the oldest first
 abbrev pub choices_in : List Turn → List Chosen
@@ -58,6 +69,10 @@ HasLookedUp cpus (Some entry) hints look want =
 -- A look with this step came after those of all these turns.
 abbrev pub IsLastLook : List PolledTurn → ℕ → Type 0
 IsLastLook ss n = All (λ (s : PolledTurn). IfSome s.look (λ m. m < n)) ss
+
+-- A step came after the marks of all these turns.
+abbrev pub IsLastMark : List PolledTurn → ℕ → Type 0
+IsLastMark ss n = All (λ (s : PolledTurn). s.mark < n) ss
 
 -- how many of these turns had their packets accepted
 abbrev pub accepted_turns : List PolledTurn → ℕ
@@ -84,7 +99,8 @@ module _ (first start : ℕ) where
 
   module _ (given : Setup) (packets q : ℕ) (hints : List HintStep) where
     -- A turn of queue q, after these, was by what it read, looked up and loaded in its visit: its
-    -- choice is the rule's for these, and the packet was put with its hash.
+    -- choice is the rule's for these, and the packet was put with its hash. It marked the packet
+    -- after its look and after the marks of all these turns.
     pub record IsPolled (ss : List PolledTurn) (s : PolledTurn) : Type 0 where
       pub within : s.turn.chosen.id < packets
       pub hash : s.turn.hash ≡ packet_hash given s.turn.chosen.id
@@ -96,6 +112,10 @@ module _ (first start : ℕ) where
           (class_read given s.turn.chosen.id (table_of_turn ss s))
           (packet_hash given s.turn.chosen.id)) hints s.look want
       pub last : IfSome s.look (IsLastLook ss)
+      pub marked : nth_step hints s.mark
+          ≡ Some (Store (hint_number (hint.Steered s.turn.chosen.id)) STEERED)
+      pub marked_late : IfSome s.look (λ m. m < s.mark)
+      pub marked_last : IsLastMark ss s.mark
       pub head : Option ℕ
       pub loads : IfSome head (LoadedHead (table_of_turn ss s)
           (class_read given s.turn.chosen.id (table_of_turn ss s)) s.turn.early)
@@ -109,14 +129,16 @@ module _ (first start : ℕ) where
     AllPolled [] = Unit {0}
     AllPolled (s ∷ ss) = IsPolled ss s × AllPolled ss
 
--- What a poller keeps of its turns, which are among those that explain its seat's list, and of the
--- steps of its seat at the hint words. The journal has the choices of the turns; the packets that
--- came out of the ring are those that were chosen for, and the one in hand; the flow table and the
--- count are those of the turns. `first` is the queue's flow word at the start.
+-- What a poller keeps of its turns, which are among those that explain its seat's list, of their
+-- marks among those of the seat, and of the steps of its seat at the hint words. The journal has
+-- the choices of the turns; the packets that came out of the ring are those that were chosen for,
+-- and the one in hand; the flow table and the count are those of the turns. `first` is the queue's
+-- flow word at the start.
 pub record IsPolling (given : Setup) (first start : ℕ) (p : Poller) (turns : List (StepBy Turn))
-    (hints : List HintStep) : Type 0 where
+    (marks : List (StepBy Mark)) (hints : List HintStep) : Type 0 where
   pub polled : List PolledTurn
   pub own : turns_in polled ≡ steps_of p.queue turns
+  pub marked : marks_in polled ≡ steps_of p.queue marks
   pub journal : p.choices.items ≡ choices_in (steps_of p.queue turns)
   pub taken : ring_packets p.choices.room (received p.ring)
       ≡ map (λ (c : Chosen). c.id) p.choices.items ++ held p.hand

@@ -12,7 +12,6 @@ use Rattle.dev_flow_table.specs.Folds.{after_turn}
 use Rattle.dev_flow_table.specs.Tables.{Table, cleared, entries}
 use Rattle.history.specs.declared.arrival.Arrival.{Arrival}
 use Rattle.history.specs.declared.sent.Sent.{Sent}
-use Rattle.history.specs.declared.sock_write.SockWrite.{SockWrite}
 use Rattle.xps_map.specs.Maps.{Maps, no_cpus, picked}
 use Rattle.hint_words.specs.declared.step.HintStep.{HintStep}
 use Rattle.hint_words.specs.declared.step.HintStep.TheVariants.{Load}
@@ -25,14 +24,17 @@ use Rattle.hop_rule.specs.declared.step.GateStep.TheVariants.{Read}
 use Rattle.hop_rule.specs.declared.step.LaneStep.TheVariants.{OutHeld}
 use Rattle.hop_delivery.specs.Orders.Turns.{Turn}
 use Rattle.steer_model.specs.State.Setup.{Setup, flow_number_of, packet_hash}
+use Rattle.run_words.specs.Numbers.{hint_number}
 use Rattle.run_words.specs.Values.{cpus_in, place_in, queues_in, socket_size_in}
-use Rattle.run_words.specs.declared.hint_word.TheConstants.{QUEUE_WORDS, STAND_WORDS}
+use Rattle.run_words.specs.declared.hint_word.HintWord.TheVariants as hint
+use Rattle.run_words.specs.declared.hint_word.TheConstants.{STAND_WORDS}
 use Rattle.run_workers.specs.Hands.Pollers.{LoadedHead, as_told}
 use Rattle.run_workers.specs.Hands.Servers.{queue_by}
 use Rattle.run_workers.specs.declared.server.Server.{Server}
 use Rattle.run_words.specs.Lists.{oldest_first}
 use Rattle.run_workers.specs.Records.Growth.{held}
 use Rattle.run_workers.specs.Records.Polling.{choices_in}
+use Rattle.run_workers.specs.Records.Words.{Note}
 
 -- A turn of an application, the reply, and the values of the setting words that were read in its
 -- visit.
@@ -65,7 +67,7 @@ HasStood cpus app home hints cpu =
 abbrev pub HasCome : (queues : ℕ) → List Arrival → List HintStep → (id rxq : ℕ) → Type 0
 HasCome queues arrivals hints id rxq =
     (word : ℕ) × (queue_by (place_in word queues) arrivals id ≡ Some rxq)
-    × Contains hints (Load (QUEUE_WORDS + id) word)
+    × Contains hints (Load (hint_number (hint.Queue id)) word)
 
 -- The out lane o was held, and this packet was at its index k.
 pub record HasFound (rx : List BoardStep) (o k id : ℕ) : Type 0 where
@@ -82,21 +84,21 @@ pub record HasReadInside (rx : List BoardStep) (setting value : ℕ) : Type 0 wh
   pub in_visit : visit (gate_steps older) ≡ inside
 
 module _ (given : Setup) (app home : ℕ) (rx : List BoardStep) (hints : List HintStep) where
-  -- For this entry the processor on which the application stood was written, and then the rest; for
-  -- none the rest alone.
-  abbrev pub HasWritten : Option ℕ → List SockWrite → List SockWrite → Type 0
-  HasWritten None rest writes = writes ≡ rest
-  HasWritten (Some entry) rest writes =
+  -- For this packet and entry the processor on which the application stood was written, and then
+  -- the rest; for no entry the rest alone.
+  abbrev pub HasWritten : (packet : ℕ) → Option ℕ → List Note → List Note → Type 0
+  HasWritten id None rest notes = notes ≡ rest
+  HasWritten id (Some entry) rest notes =
       (cpu : ℕ) × HasStood given.cpus app home hints cpu
-      × (writes ≡ record { entry = entry; cpu = cpu } ∷ rest)
+      × (notes ≡ record { packet = id; write = record { entry = entry; cpu = cpu } } ∷ rest)
 
   -- For each packet in order the entry of its hash was written, by a socket size that was read in a
   -- visit; for a packet without an entry nothing.
-  abbrev pub HasWrittenAll : List ℕ → List SockWrite → Type 0
-  HasWrittenAll [] writes = writes ≡ []
-  HasWrittenAll (id ∷ ids) writes =
-      (size : ℕ) × (rest : List SockWrite) × HasReadInside rx (2 * length given.homes) size
-      × HasWritten (class_of (socket_size_in size) (packet_hash given id)) rest writes
+  abbrev pub HasWrittenAll : List ℕ → List Note → Type 0
+  HasWrittenAll [] notes = notes ≡ []
+  HasWrittenAll (id ∷ ids) notes =
+      (size : ℕ) × (rest : List Note) × HasReadInside rx (2 * length given.homes) size
+      × HasWritten id (class_of (socket_size_in size) (packet_hash given id)) rest notes
       × HasWrittenAll ids rest
 
 -- ---- the turns
@@ -147,15 +149,19 @@ module _ (rows start : ℕ) where
 
 -- What an application keeps of its packets and of its turns, which are among those that explain its
 -- seat's list at the transmit board, by the steps of its seats at the receive board and at the hint
--- words. It found each packet at its place in the inbox, wrote for each, and replied to each but
--- the one in hand; the journals and the flow table are those of the turns.
+-- words. It found each packet at its place in the inbox, wrote for each, which are its notes among
+-- those of the seat, and replied to each but the one in hand; the journals and the flow table are
+-- those of the turns.
 pub record IsReplying (given : Setup) (rows start : ℕ) (arrivals : List Arrival) (s : Server)
-    (turns : List (StepBy Turn)) (rx : List BoardStep) (hints : List HintStep) : Type 0 where
+    (turns : List (StepBy Turn)) (noted : List (StepBy Note)) (rx : List BoardStep)
+    (hints : List HintStep) : Type 0 where
   pub replied : List RepliedTurn
   pub own : reply_turns replied ≡ steps_of s.app turns
   pub replies : s.sent.items ≡ replies_in replied
   pub choices : s.choices.items ≡ choices_in (steps_of s.app turns)
   pub table : s.table ≡ replied_table rows start replied
   pub found : (k id : ℕ) → slice_get (taken_by s) k ≡ Some id → HasFound rx s.app k id
-  pub writes : HasWrittenAll given s.app s.home rx hints (taken_by s) s.writes.items
+  pub notes : HasWrittenAll given s.app s.home rx hints (taken_by s)
+      (oldest_first (steps_of s.app noted))
+  pub writes : s.writes.items ≡ map (λ (n : Note). n.write) (oldest_first (steps_of s.app noted))
   pub are : EachReplied rows start given s.sent.room s.app s.home arrivals hints replied

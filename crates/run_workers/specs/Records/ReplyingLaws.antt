@@ -18,66 +18,80 @@ use Rattle.run_workers.specs.declared.poller.Poller.{Poller}
 use Rattle.run_workers.specs.declared.server.Server.{Server}
 use Rattle.run_workers.specs.Records.Growth.{Grows, TurnsGrow}
 use Rattle.run_workers.specs.Records.Replying.{IsReplying}
+use Rattle.run_workers.specs.Records.Storing.{NotesGrow}
+use Rattle.run_workers.specs.Records.Words.{Note}
 
 -- A new application keeps the record of no packets and no turns.
 abbrev pub ServersBegin : Type 0
 ServersBegin =
     (given : Setup) (rows start : ℕ) (arrivals : List Arrival) (s : Server)
-    (turns : List (StepBy Turn)) (rx : List BoardStep) (hints : List HintStep)
+    (turns : List (StepBy Turn)) (noted : List (StepBy Note)) (rx : List BoardStep)
+    (hints : List HintStep)
     → s.hand ≡ None → s.table ≡ cleared rows start true → s.sent.items ≡ []
     → s.choices.items ≡ [] → s.writes.items ≡ [] → steps_of s.app turns ≡ []
-    → IsReplying given rows start arrivals s turns rx hints
+    → steps_of s.app noted ≡ [] → IsReplying given rows start arrivals s turns noted rx hints
+
+-- What a call leaves by which an application takes a packet or none: the notes, with at most one
+-- more of the application, and its record over them.
+pub record TakesOn (given : Setup) (rows start : ℕ) (arrivals : List Arrival) (s t : Server)
+    (turns : List (StepBy Turn)) (noted : List (StepBy Note)) (new : BoardSeatView)
+    (hint_new : SeatView HintStep) : Type 0 where
+  pub more : List (StepBy Note)
+  pub grow : NotesGrow s t noted more
+  pub keeps : IsReplying given rows start arrivals t turns more new.steps hint_new.steps
 
 -- A call by which an application takes a packet or none keeps its record.
 abbrev pub TakesGoOn : Type 0
 TakesGoOn =
     (about : BoardSizes) (given : Setup) (rows start : ℕ) (arrivals : List Arrival)
-    (s t : Server) (took : Bool) (turns : List (StepBy Turn)) (old new : BoardSeatView)
-    (hint_old hint_new : SeatView HintStep)
+    (s t : Server) (took : Bool) (turns : List (StepBy Turn)) (noted : List (StepBy Note))
+    (old new : BoardSeatView) (hint_old hint_new : SeatView HintStep)
     → TakesOrLeaves about given s t old new hint_old hint_new took
-    → IsReplying given rows start arrivals s turns old.steps hint_old.steps
-    → IsReplying given rows start arrivals t turns new.steps hint_new.steps
+    → IsReplying given rows start arrivals s turns noted old.steps hint_old.steps
+    → TakesOn given rows start arrivals s t turns noted new hint_new
 
 -- What a reply leaves: the turns that explain the seat's list at the transmit board, with at most
 -- one more of the application, and the application's record over them.
 pub record RepliesOn (given : Setup) (rows start : ℕ) (arrivals : List Arrival) (s t : Server)
-    (turns : List (StepBy Turn)) (rx : List BoardStep) (new : BoardSeatView)
-    (hint_new : SeatView HintStep) : Type 0 where
+    (turns : List (StepBy Turn)) (noted : List (StepBy Note)) (rx : List BoardStep)
+    (new : BoardSeatView) (hint_new : SeatView HintStep) : Type 0 where
   pub more : List (StepBy Turn)
   pub grow : TurnsGrow s.app turns more
   pub explained : Explained new.steps more
-  pub keeps : IsReplying given rows start arrivals t more rx hint_new.steps
+  pub keeps : IsReplying given rows start arrivals t more noted rx hint_new.steps
 
 -- A call by which an application replies or keeps its hand keeps its record, where its late
 -- arrivals are none or all.
 abbrev pub RepliesGoOn : Type 0
 RepliesGoOn =
     (given : Setup) (rows start : ℕ) (arrivals late : List Arrival) (s t : Server) (sent : Bool)
-    (turns : List (StepBy Turn)) (rx : List BoardStep) (old new : BoardSeatView)
-    (hint_old hint_new : SeatView HintStep)
+    (turns : List (StepBy Turn)) (noted : List (StepBy Note)) (rx : List BoardStep)
+    (old new : BoardSeatView) (hint_old hint_new : SeatView HintStep)
     → RepliesOrKeeps given late s t old new hint_old hint_new sent
     → IsServer given s → (late ≡ []) ⊎ (late ≡ arrivals) → Explained old.steps turns
-    → IsReplying given rows start arrivals s turns rx hint_old.steps
-    → RepliesOn given rows start arrivals s t turns rx new hint_new
+    → IsReplying given rows start arrivals s turns noted rx hint_old.steps
+    → RepliesOn given rows start arrivals s t turns noted rx new hint_new
 
 -- An application's record stays while its seat makes no turn of it, and while its seats make more
 -- steps at the receive board and at the hint words.
 abbrev pub ServersStay : Type 0
 ServersStay =
     (given : Setup) (rows start : ℕ) (arrivals : List Arrival) (s : Server)
-    (turns more : List (StepBy Turn)) (rx rx_after : List BoardStep)
-    (hints after : List HintStep)
-    → steps_of s.app more ≡ steps_of s.app turns → Grows rx rx_after → Grows hints after
-    → IsReplying given rows start arrivals s turns rx hints
-    → IsReplying given rows start arrivals s more rx_after after
+    (turns more : List (StepBy Turn)) (noted more_notes : List (StepBy Note))
+    (rx rx_after : List BoardStep) (hints after : List HintStep)
+    → steps_of s.app more ≡ steps_of s.app turns → steps_of s.app more_notes ≡ steps_of s.app noted
+    → Grows rx rx_after → Grows hints after
+    → IsReplying given rows start arrivals s turns noted rx hints
+    → IsReplying given rows start arrivals s more more_notes rx_after after
 
 -- A record that was kept before the arrivals were known is one with them.
 abbrev pub ArrivalsComeLate : Type 0
 ArrivalsComeLate =
     (given : Setup) (rows start : ℕ) (arrivals : List Arrival) (s : Server)
-    (turns : List (StepBy Turn)) (rx : List BoardStep) (hints : List HintStep)
-    → IsReplying given rows start [] s turns rx hints
-    → IsReplying given rows start arrivals s turns rx hints
+    (turns : List (StepBy Turn)) (noted : List (StepBy Note)) (rx : List BoardStep)
+    (hints : List HintStep)
+    → IsReplying given rows start [] s turns noted rx hints
+    → IsReplying given rows start arrivals s turns noted rx hints
 
 -- The lists of the seats that a call of a hand is given grow.
 pub record CallsAddSteps : Type 0 where

@@ -1,9 +1,11 @@
 use Rattle.headline.proofs.ForgedRunLemmas.{circle-of-queues-forged, future-head-forged}
 use Rattle.headline.proofs.ForgedRunLemmas.{future-transmit-head-forged, overfull-backlog-forged}
+use Rattle.headline.proofs.ForgedRunLemmas.{own-filter-forged, own-want-forged}
 use Rattle.headline.proofs.ForgedRunLemmas.{stale-drop-forged, stale-settings-forged}
 use Rattle.headline.proofs.ForgedRunLemmas.{staler-drop-forged}
 use Rattle.headline.proofs.ForgedRunLemmas.{swapped-inbox-forged, swapped-port-forged}
 use Rattle.headline.proofs.ForgedRunLemmas.{swapped-puts-forged, unpulled-head-forged}
+use Rattle.headline.proofs.ForgedRunLemmas.{unset-want-forged}
 use Rattle.headline.proofs.laws.forged_runs_are_no_runs.Goals as goal
 
 pub returns-clause-future_head : goal.returns-clause-future_head
@@ -38,3 +40,12 @@ returns-clause-circle_of_queues c = circle-of-queues-forged
 
 pub returns-clause-stale_settings : goal.returns-clause-stale_settings
 returns-clause-stale_settings c = stale-settings-forged
+
+pub returns-clause-own_want : goal.returns-clause-own_want
+returns-clause-own_want c = own-want-forged
+
+pub returns-clause-own_filter : goal.returns-clause-own_filter
+returns-clause-own_filter c = own-filter-forged
+
+pub returns-clause-unset_want : goal.returns-clause-unset_want
+returns-clause-unset_want c = unset-want-forged

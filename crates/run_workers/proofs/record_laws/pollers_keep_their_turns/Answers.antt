@@ -10,3 +10,9 @@ returns-clause-stay c = pollers_stay
 
 pub returns-clause-others : goal.returns-clause-others
 returns-clause-others c = others_stay
+
+pub returns-clause-other_marks : goal.returns-clause-other_marks
+returns-clause-other_marks c = others_stay
+
+pub returns-clause-other_notes : goal.returns-clause-other_notes
+returns-clause-other_notes c = others_stay

@@ -1,9 +1,11 @@
-use Rattle.std.proofs.Common.{inl, inr, refl, ap, ◌∙◌}
+use Rattle.std.proofs.Common.{ℕ, Option, inl, inr, refl, ap, subst, ◌∙◌}
 use Rattle.hop_rule.specs.Boards.{gate_steps}
 use Rattle.hop_rule.specs.Gates.{closed, visit}
 use Rattle.steer_base.specs.declared.choice.Chosen.{Chosen}
 use Rattle.board_api.specs.Seats.{BoardSeatView}
+use Rattle.run_workers.specs.Hands.Pollers.{FindsAnnounced}
 use Rattle.run_workers.proofs.Hands.VisitLemmas.{stays_inside, stays_open, turn, visits}
+use Rattle.run_workers.proofs.Hands.WaitLemmas.{waited}
 use Rattle.run_workers.proofs.poller.Poller.poll.Goals as goal
 
 pub returns-in_default-clause-polls : goal.returns-in_default-clause-polls
@@ -14,7 +16,10 @@ returns-in_default-clause-polls g c =
       takes = c.take-took.ensures.takes;
       none = c.take-took.ensures.none;
       same = c.take-took.ensures.same;
-      steers = inl (record { same = refl; hint = refl; steps = inl (c.in_default.is, refl) });
+      steers = inl (waited c.take-took.new.self c.args.seat.now c.args.hint.now
+          c.announced.new.seat (subst (λ (found : Option ℕ). FindsAnnounced
+          c.take-took.new.self.hand found c.args.hint.now c.announced.new.seat)
+          c.in_default.is c.announced.ensures));
     }
 
 pub leave-requires-clause-inside : goal.leave-requires-clause-inside
@@ -23,7 +28,7 @@ leave-requires-clause-inside g c =
     c.take-took.new.self.flows c.steer.new.self.flows c.take-took.new.self.table
     c.steer.new.self.table c.take-took.new.self.accepted c.steer.new.self.accepted
     (record { id = c.in-Some.id; choice = c.steer.result }) c.enter.new.seat c.steer.new.seat
-    c.args.hint.now c.steer.new.hint c.steer.ensures.steers
+    c.announced.new.seat c.steer.new.hint c.steer.ensures.steers
     (ap (λ (s : BoardSeatView). visit (gate_steps s.steps)) c.in-Ok.ensures.step.2)
 
 pub returns-in-Ok-clause-polls : goal.returns-in-Ok-clause-polls
@@ -38,20 +43,25 @@ returns-in-Ok-clause-polls g c =
       same = c.take-took.ensures.same;
       steers = inr (
         c.in-Some.id,
-        c.in-Some.is,
+        c.in-Some.ensures.0,
         record {
           turn = turn c.args.shared.now.given c.args.shared.now.filters c.take-took.new.self.queue
               c.take-took.new.self.flows c.steer.new.self.flows c.take-took.new.self.table
               c.steer.new.self.table c.take-took.new.self.accepted c.steer.new.self.accepted
-              chosen c.enter.new.seat c.steer.new.seat c.args.hint.now c.steer.new.hint
+              chosen c.enter.new.seat c.steer.new.seat c.announced.new.seat c.steer.new.hint
               c.steer.ensures.steers word;
           id_is = refl;
+          word = c.in-Some.ensures.1;
+          hint_mid = c.announced.new.seat;
+          loads = c.in-Some.ensures.2;
+          announced = c.in-Some.ensures.3;
           visit = visits c.args.shared.now.given c.args.shared.now.filters
               c.take-took.new.self.queue c.take-took.new.self.flows c.steer.new.self.flows
               c.take-took.new.self.table c.steer.new.self.table c.take-took.new.self.accepted
-              c.steer.new.self.accepted chosen c.enter.new.seat c.steer.new.seat c.args.hint.now
-              c.steer.new.hint c.steer.ensures.steers c.args.seat.now c.leave.new.seat word
-              c.in-Ok.ensures.step.1 c.in-Ok.ensures.step.2 c.leave.ensures;
+              c.steer.new.self.accepted chosen c.enter.new.seat c.steer.new.seat
+              c.announced.new.seat c.steer.new.hint c.steer.ensures.steers c.args.seat.now
+              c.leave.new.seat word c.in-Ok.ensures.step.1 c.in-Ok.ensures.step.2
+              c.leave.ensures;
           choices = c.steer.ensures.choices;
           same = c.steer.ensures.same;
         },
@@ -68,8 +78,14 @@ returns-in-Closed-clause-polls g c =
       same = c.take-took.ensures.same;
       steers = inl (record {
         same = refl;
-        hint = refl;
-        steps = inr (c.in-Closed.word, c.in-Closed.ensures.step.1);
+        steps = inr (inr (
+          c.in-Some.id,
+          c.in-Some.ensures.1,
+          c.in-Some.ensures.0,
+          c.in-Some.ensures.2,
+          c.in-Some.ensures.3,
+          (c.in-Closed.word, c.in-Closed.ensures.step.1),
+        ));
       });
     }
 
@@ -80,6 +96,6 @@ returns-in-Ok-clause-open g c =
     c.take-took.new.self.flows c.steer.new.self.flows c.take-took.new.self.table
     c.steer.new.self.table c.take-took.new.self.accepted c.steer.new.self.accepted
     (record { id = c.in-Some.id; choice = c.steer.result }) c.enter.new.seat c.steer.new.seat
-    c.args.hint.now c.steer.new.hint c.steer.ensures.steers
+    c.announced.new.seat c.steer.new.hint c.steer.ensures.steers
     (ap (λ (s : BoardSeatView). closed (gate_steps s.steps)) c.in-Ok.ensures.step.2
     ∙ c.requires.open)

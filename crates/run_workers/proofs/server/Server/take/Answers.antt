@@ -4,49 +4,38 @@ use Rattle.hop_rule.specs.Boards.{gate_steps}
 use Rattle.hop_rule.specs.Gates.{closed}
 use Rattle.board_api.specs.Seats.{BoardSeatView}
 use Rattle.run_workers.specs.Hands.Deltas.{no_lane}
-use Rattle.run_workers.specs.Hands.Servers.{IsServer}
+use Rattle.run_workers.specs.Hands.Servers.{HasNoNext, IsServer}
 use Rattle.run_workers.proofs.Hands.DeltaLemmas.{stays}
-use Rattle.run_workers.proofs.Hands.ServerLemmas.{quiet_gate, quiet_place, taken_is}
+use Rattle.run_workers.proofs.Hands.ServerLemmas.{peeks_serve, quiet_gate, quiet_place, taken_is}
+use Rattle.run_workers.proofs.Hands.WaitLemmas.{clear_word, set_word}
 use Rattle.run_workers.proofs.server.Server.take.Goals as goal
 
 pub returns-then-is_some-clause-takes : goal.returns-then-is_some-clause-takes
 returns-then-is_some-clause-takes g c =
+    let none : HasNoNext (g.B.Board.view c.args.board.now).sizes c.args.self.now c.args.seat.now
+    c.args.seat.now =
+    elim c.then-is_some.branch [
+      | goal.then-is_some-via-then-is_some w ↦ inl (sym c.is_some.ensures ∙ w.if-is_some.true)
+      | goal.then-is_some-via-else-is_some+then-len-room w ↦
+          let full = w.if-len-room.true in
+          let len = w.len.ensures.len in
+          let room = w.room.ensures in
+          inr (inl (omega (arith, full, len, room)))
+    ] in
     record {
       same = refl;
-      hint = refl;
       mid = c.args.seat.now;
       looks = stays no_lane c.args.seat.now;
-      gate = inl (
-        inl (sym c.is_some.ensures ∙ c.if-is_some.true),
-        refl,
-      );
-    }
-
-pub returns-then-len-room-clause-takes : goal.returns-then-len-room-clause-takes
-returns-then-len-room-clause-takes g c =
-    let full = c.if-len-room.true in
-    let len = c.len.ensures.len in
-    let room = c.room.ensures in
-    record {
-      same = refl;
-      hint = refl;
-      mid = c.args.seat.now;
-      looks = stays no_lane c.args.seat.now;
-      gate = inl (inr (inl (omega (arith, full, len, room))), refl);
+      gate = inl (none, refl, refl);
     }
 
 pub returns-in_default-clause-takes : goal.returns-in_default-clause-takes
 returns-in_default-clause-takes g c =
     record {
       same = refl;
-      hint = refl;
       mid = c.peek.new.seat;
-      looks = record {
-        added = c.peek.ensures.peeks.added;
-        only = c.peek.ensures.peeks.only;
-        adds = c.peek.ensures.peeks.adds;
-      };
-      gate = inl (inr (inr (c.peek.ensures.none c.in_default.is)), refl);
+      looks = peeks_serve _ _ _ c.peek.result c.args.seat.now c.peek.new.seat c.peek.ensures.peeks;
+      gate = inl (inr (inr (c.peek.ensures.none c.in_default.is)), refl, refl);
     }
 
 pub returns-in_default-clause-outside : goal.returns-in_default-clause-outside
@@ -56,6 +45,32 @@ returns-in_default-clause-outside g c =
 
 pub returns-in_default-clause-open : goal.returns-in_default-clause-open
 returns-in_default-clause-open g c =
+    let p = c.peek.ensures.peeks in
+    quiet_gate p.added c.args.seat.now c.peek.new.seat p.only.quiet p.adds ∙ c.requires.open
+
+pub returns-then-not-is_steered-clause-takes : goal.returns-then-not-is_steered-clause-takes
+returns-then-not-is_steered-clause-takes g c =
+    let loads = c.is_steered.ensures.loads in
+    record {
+      same = refl;
+      mid = c.peek.new.seat;
+      looks = peeks_serve _ _ _ c.peek.result c.args.seat.now c.peek.new.seat c.peek.ensures.peeks;
+      gate = inr (
+        c.in-Some.id,
+        loads.0,
+        c.in-Some.ensures.peeks,
+        loads.1,
+        inl (clear_word c.is_steered.result loads.0 loads.2 c.if-not-is_steered.true, refl),
+      );
+    }
+
+pub returns-then-not-is_steered-clause-outside : goal.returns-then-not-is_steered-clause-outside
+returns-then-not-is_steered-clause-outside g c =
+    let p = c.peek.ensures.peeks in
+    quiet_place p.added c.args.seat.now c.peek.new.seat p.only.quiet p.adds ∙ c.requires.outside
+
+pub returns-then-not-is_steered-clause-open : goal.returns-then-not-is_steered-clause-open
+returns-then-not-is_steered-clause-open g c =
     let p = c.peek.ensures.peeks in
     quiet_gate p.added c.args.seat.now c.peek.new.seat p.only.quiet p.adds ∙ c.requires.open
 
@@ -76,10 +91,11 @@ returns-in-Ok-clause-is g c =
     let room = c.room.ensures in
     subst (IsServer c.args.shared.now.given) (sym c.record.ensures.same)
     (taken_is c.args.shared.now.given c.args.self.now c.in-Some.id c.record.new.self.writes
-    c.enter.new.seat c.record.new.seat c.args.hint.now c.record.new.hint c.requires.is
+    c.enter.new.seat c.record.new.seat c.is_steered.new.seat c.record.new.hint c.requires.is
     (none-unless c.args.self.now.hand (sym c.is_some.ensures ∙ c.if-is_some.false))
     (omega (arith, few, len, room))
-    (subst (λ (n : ℕ). c.in-Some.id < n) (sym c.requires.room) c.in-Some.ensures.peeks.found.within)
+    (subst (λ (n : ℕ). c.in-Some.id < n) (sym c.requires.room)
+    c.in-Some.ensures.peeks.found.within)
     c.record.ensures.notes)
 
 pub returns-in-Ok-clause-open : goal.returns-in-Ok-clause-open
@@ -93,18 +109,20 @@ returns-in-Ok-clause-open g c =
 
 pub returns-in-Closed-clause-takes : goal.returns-in-Closed-clause-takes
 returns-in-Closed-clause-takes g c =
+    let loads = c.is_steered.ensures.loads in
     record {
       same = refl;
-      hint = refl;
       mid = c.peek.new.seat;
-      looks = record {
-        added = c.peek.ensures.peeks.added;
-        only = c.peek.ensures.peeks.only;
-        adds = c.peek.ensures.peeks.adds;
-      };
+      looks = peeks_serve _ _ _ c.peek.result c.args.seat.now c.peek.new.seat c.peek.ensures.peeks;
       gate = inr (
-        (c.in-Some.id, c.in-Some.ensures.peeks),
-        (c.in-Closed.word, c.in-Closed.ensures.step.1),
+        c.in-Some.id,
+        loads.0,
+        c.in-Some.ensures.peeks,
+        loads.1,
+        inr (
+          set_word c.is_steered.result loads.0 loads.2 c.if-not-is_steered.false,
+          (c.in-Closed.word, c.in-Closed.ensures.step.1),
+        ),
       );
     }
 

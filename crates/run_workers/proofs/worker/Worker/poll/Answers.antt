@@ -1,5 +1,5 @@
-use Rattle.std.proofs.Common.{arith, refl}
-use Rattle.run_workers.proofs.AtLemmas.{read_at}
+use Rattle.std.proofs.Common.{refl}
+use Rattle.run_workers.proofs.AtLemmas.{read_at, words_within}
 use Rattle.run_workers.proofs.PollLemmas.{poll_goes_on}
 use Rattle.run_workers.proofs.TurnLemmas.{others_of_poll}
 use Rattle.run_workers.proofs.worker.Worker.poll.Goals as goal
@@ -10,12 +10,10 @@ poll-requires g c =
     read_at c.args.self.now.pollers c.args.i c.index_mut.result.now c.requires.within
     c.index_mut.ensures.value in
     let at = c.requires.is.pollers c.args.i c.index_mut.result.now there in
-    let words = c.requires.is.sizes.words in
-    let filters = c.requires.is.sizes.filters in
     record {
       table = c.requires.is.rx.table;
       hint_table = c.requires.is.hint_table;
-      words = omega (arith, words, filters);
+      words = words_within _ _ at.room c.requires.is.sizes;
       filters = c.requires.is.sizes.filters;
       outside = c.requires.is.rx.outside;
       «open» = c.requires.is.rx.gate;

@@ -1,6 +1,6 @@
 use Rattle.std.proofs.Common.{refl, subst}
 use Rattle.run_workers.specs.Hands.Servers.{RepliesOrKeeps}
-use Rattle.run_workers.proofs.AtLemmas.{read_at, reply_room, reply_words}
+use Rattle.run_workers.proofs.AtLemmas.{read_at, reply_room, words_within}
 use Rattle.run_workers.proofs.ReplyLemmas.{reply_goes_on}
 use Rattle.run_workers.proofs.TurnLemmas.{others_of_serve}
 use Rattle.run_workers.proofs.worker.Worker.reply.Goals as goal
@@ -14,7 +14,7 @@ reply-requires g c =
     record {
       table = c.requires.is.tx.table;
       hint_table = c.requires.is.hint_table;
-      words = reply_words _ c.args.self.now c.args.seats.now c.requires.is c.args.i _ at;
+      words = words_within _ _ at.room c.requires.is.sizes;
       outside = c.requires.is.tx.outside;
       «open» = c.requires.is.tx.gate;
       settings = c.requires.is.sizes.maps;

@@ -1,5 +1,5 @@
-use Rattle.std.proofs.Common.{arith, refl}
-use Rattle.run_workers.proofs.AtLemmas.{read_at}
+use Rattle.std.proofs.Common.{refl}
+use Rattle.run_workers.proofs.AtLemmas.{read_at, words_within}
 use Rattle.run_workers.proofs.TakeLemmas.{take_goes_on}
 use Rattle.run_workers.proofs.TurnLemmas.{others_of_serve}
 use Rattle.run_workers.proofs.worker.Worker.take.Goals as goal
@@ -10,11 +10,10 @@ take-requires g c =
     read_at c.args.self.now.servers c.args.i c.index_mut.result.now c.requires.within
     c.index_mut.ensures.value in
     let at = c.requires.is.servers c.args.i c.index_mut.result.now there in
-    let words = c.requires.is.sizes.words in
     record {
       table = c.requires.is.rx.table;
       hint_table = c.requires.is.hint_table;
-      words = omega (arith, words);
+      words = words_within _ _ at.room c.requires.is.sizes;
       outside = c.requires.is.rx.outside;
       «open» = c.requires.is.rx.gate;
       app = at.within;
