@@ -32,6 +32,10 @@ abbrev pub IsClassOf : Table → Option ℕ → Type 0
 IsClassOf table None = Unit {0}
 IsClassOf table (Some class) = class < length table.rows
 
+-- the flow table with this entry for a class
+abbrev pub with_entry : Table → ℕ → Entry → Table
+with_entry table class entry = record table { rows = slice_set table.rows class entry }
+
 -- the entry of a class after a choice: the chosen lane, and the recorded tail as it was or, after a
 -- move, the number at which counters begin
 abbrev pub entry_after : ℕ → Entry → Choice → Entry

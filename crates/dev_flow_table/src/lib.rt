@@ -12,4 +12,5 @@ pub use list_laws::{
     a_class_walks_in_order, a_table_has_the_entries_of_the_lists,
     a_table_was_cleared_at_the_last_change,
 };
+pub use rule::{Wish, choose, entry_after};
 pub use table::{DevTable, MAX_EXACT_CLASSES};

@@ -7,16 +7,19 @@ ghost use Rattle.dev_flow_table.specs.Tables.{entry_after};
 
 use steer_base::{Choice, CpuMask, Entry, Why, reached};
 
-// The input of a choice: the class, the wanted lane as it was read, and the desired lane.
+/// The input of a choice.
 #[derive(Clone, Copy)]
 pub struct Wish {
+    /// The class.
     pub class: u32,
+    /// The wanted lane, as it was read.
     pub want: Option<u8>,
+    /// The desired lane.
     pub desired: u8,
 }
 
-// The choice of the lane for a class with this entry. `head` is the head of its current lane, if
-// the rule looks at it.
+/// The choice of the lane for a class with this entry. `head` is the head of its current lane,
+/// given if and only if the rule looks at it.
 pub fn choose(wish: Wish, entry: Entry, head: Option<u32>, online: CpuMask) -> Choice
     requires { is_some head ≡ looks_from entry.lane wish.desired (has online) }
     ensures { result ≡ by_entry wish.class wish.want wish.desired entry.tail
@@ -43,7 +46,8 @@ pub fn choose(wish: Wish, entry: Entry, head: Option<u32>, online: CpuMask) -> C
     }
 }
 
-// The entry after a choice. A class that moved has no accepted packet at its new lane.
+/// The entry after a choice. A class that moved has no accepted packet at its new lane. The
+/// counters of the lanes begin at the number `start`.
 pub fn entry_after(start: u32, entry: Entry, choice: &Choice) -> Entry
     ensures { result ≡ entry_after start entry choice.now }
 {

@@ -10,7 +10,7 @@ ghost use Rattle.steer_base.specs.declared.choice.Entry.{Entry as AnEntry};
 ghost use Rattle.steer_base.specs.declared.limits.TheConstants.{MAX_FLOW_COUNT};
 ghost use Rattle.dev_flow_table.specs.Moves.{MovesInTable};
 ghost use Rattle.dev_flow_table.specs.Tables.{IsClassOf, cleared, entries, recorded};
-ghost use Rattle.dev_flow_table.specs.Tables.{weighed};
+ghost use Rattle.dev_flow_table.specs.Tables.{weighed, with_entry};
 ghost use Rattle.dev_flow_table.specs.declared.table.TheConstants.{MAX_EXACT_CLASSES};
 
 use crate::rule::{self, Wish};
@@ -110,6 +110,22 @@ impl DevTable {
         ensures { result ≡ (entries self.now class).tail }
     {
         entry_at(&self.rows, class, self.start).tail
+    }
+
+    /// The entry of a class.
+    pub fn entry(&self, class: u32) -> Entry
+        requires { class < length self.now.rows }
+        ensures { result ≡ entries self.now class }
+    {
+        entry_at(&self.rows, class, self.start)
+    }
+
+    /// Replaces the entry of a class.
+    pub fn set(&mut self, class: u32, entry: Entry)
+        requires { class < length self.old.rows }
+        ensures { self.new ≡ with_entry self.old class entry }
+    {
+        write_at(&mut self.rows, class, entry, self.start);
     }
 
     /// Chooses the lane of a packet by the entry of its class, and records the choice in that

@@ -1,6 +1,6 @@
--- One of many lanes, tables or lists was changed, seen in the lists of them all.
-use Rattle.std.proofs.Common.{ℕ, ◌+◌, ◌<◌, ◌≡◌, Bool, List, [], ◌∷◌, ◌++◌, length, refl, ap, ◌∙◌}
-use Rattle.std.proofs.Common.{sym, arith, get_or, set, map, replicate, inl, inr}
+-- One of many lanes or lists was changed, seen in the lists of them all.
+use Rattle.std.proofs.Common.{ℕ, ◌+◌, ◌<◌, ◌≡◌, List, [], ◌∷◌, ◌++◌, length, refl, ap, ◌∙◌}
+use Rattle.std.proofs.Common.{arith, get_or, set, map, replicate, inl, inr}
 use Rattle.std.proofs.Math.Seq.{map-set, get_or-append_seam}
 use Rattle.std.proofs.Math.ListN.{length-set, get_or-append}
 use Rattle.std.proofs.lemmas.List.{get_or-map, get_or-set_same, get_or-set_other, length-append}
@@ -10,8 +10,6 @@ use Rattle.steer_base.specs.Lanes.{LaneLists}
 use Rattle.steer_base.specs.Sets.{has}
 use Rattle.steer_base.specs.declared.cpu_mask.CpuMask.{CpuMask}
 use Rattle.backlog.specs.Puts.{SameShape, new_lane}
-use Rattle.dev_flow_table.specs.Tables.{Table}
-use Rattle.hop_core.specs.FlowTables.{FlowTables, table_at, with_rows}
 use Rattle.hop_core.specs.LaneTable.{AreShaped, LaneTable, lane_at, with_lane}
 
 -- the lanes by the lists of each
@@ -97,22 +95,6 @@ AreShaped-push ls limit room start limited l is shaped c d inside =
       | inr ne ↦ (let lt : c < length ls = omega arith in rw (get_or-append ls (l ∷ []) d c lt)
           (shaped c d lt))
     ]
-
--- the tables by the rows of each
-abbrev pub tables_of : List Table → ℕ → Bool → FlowTables
-tables_of ts start exact = record { rows = map (λ t. t.rows) ts; start = start; exact = exact }
-
--- one table of many was changed
-pub with_rows-tables_of : (f : Table → Table) (ts : List Table) (start : ℕ) (exact : Bool) (i : ℕ)
-    (old new : Table) → i < length ts
-    → old ≡ get_or ts i old → old.start ≡ start → old.exact ≡ exact → new ≡ f old
-    → tables_of (set ts i new) start exact ≡ with_rows (tables_of ts start exact) i
-    (f (table_at (tables_of ts start exact) i)).rows
-with_rows-tables_of f ts start exact i old new below at s x is =
-    let rows : get_or (map (λ t. t.rows) ts) i [] ≡ old.rows =
-    get_or-map (λ t. t.rows) ts i old [] below ∙ ap (λ t. t.rows) (sym at) in
-    let e : table_at (tables_of ts start exact) i ≡ old = rw (rows, ← s, ← x) refl in
-    rw (map-set (λ t. t.rows) ts i new, is, e) refl
 
 -- one more value, whose list is that of all the others
 pub map-replicate_more : {V X : Type 0} (f : V → X) (vs more : List V) (v : V) (x : X) (n : ℕ)

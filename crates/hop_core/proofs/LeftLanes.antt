@@ -1,6 +1,6 @@
 -- What the lanes leave, one after the other and by their numbers.
 use Rattle.std.proofs.Common.{ℕ, ◌+◌, ◌<◌, ◌≡◌, List, [], ◌∷◌, length, map, refl, ap, ◌∙◌}
-use Rattle.std.proofs.Common.{arith, get_or, zero, suc}
+use Rattle.std.proofs.Common.{arith, get_or, suc}
 use Rattle.std.specs.Prelude.{slice_index}
 use Rattle.std.specs.List.{range_with_len, zip}
 use Rattle.std.proofs.lemmas.List.{get_or-map, length-map}

@@ -12,7 +12,6 @@ pub mod Flows
 pub mod Gate
 pub mod GateSteps
 pub mod Gathered
-pub mod HeadsSeen
 pub mod KeptHeads
 pub mod LaneSteps
 pub mod LaneTables
@@ -31,6 +30,7 @@ pub mod Rooms
 pub mod Rounds
 pub mod Settled
 pub mod SettledParts
+pub mod SharedTables
 pub mod Sizes
 pub mod Sound
 pub mod Standing

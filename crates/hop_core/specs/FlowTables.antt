@@ -56,9 +56,3 @@ abbrev pub head_from : Option ℕ → ℕ → (ℕ → Bool) → (ℕ → ℕ) �
 head_from None desired online head = None
 head_from (Some current) desired online head =
     if looks_from (Some current) desired online then Some (head current) else None
-
--- the head that the rule looks at for a packet with this class, if any
-abbrev pub head_seen : Table → Option ℕ → ℕ → (ℕ → Bool) → (ℕ → ℕ) → Option ℕ
-head_seen table None desired online head = None
-head_seen table (Some class) desired online head =
-    head_from (entries table class).lane desired online head

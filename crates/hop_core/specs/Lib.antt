@@ -17,6 +17,7 @@ pub mod Reads
 pub mod Rounds
 pub mod Settled
 pub mod Shape
+pub mod SharedTable
 pub mod Sizes
 pub mod Sound
 pub mod Standing

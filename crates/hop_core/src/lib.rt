@@ -7,6 +7,7 @@ mod lanes;
 mod laws;
 mod left;
 mod shape;
+mod shared;
 mod state_laws;
 mod tables;
 

@@ -1,43 +1,51 @@
 //! The flow tables of a hop's producers.
-ghost use Rattle.std.specs.Prelude.{◌≡◌, ℕ, ◌<◌, ◌≤◌, IfOk, false, length, replicate, slice_index};
+ghost use Rattle.std.specs.Prelude.{◌≡◌, ℕ, ◌<◌, ◌≤◌, Bool, IfOk, IfSome, None, Option, false};
+ghost use Rattle.std.specs.Prelude.{length, replicate, slice_index};
 ghost use Rattle.std.specs.List.{All};
-ghost use Rattle.steer_base.specs.Choices.{class_of, looks_at_head, migrate};
+ghost use Rattle.steer_base.specs.Choices.{by_entry, class_of, migrate};
 ghost use Rattle.steer_base.specs.Counters.{number, rounded_up};
 ghost use Rattle.steer_base.specs.Sets.{has};
+ghost use Rattle.steer_base.specs.declared.choice.Entry.{Entry as AnEntry};
 ghost use Rattle.steer_base.specs.declared.limits.TheConstants.{MAX_FLOW_COUNT};
 ghost use Rattle.dev_flow_table.specs.Tables.{IsClassOf, cleared, entries, unset, weighed};
-ghost use Rattle.hop_core.specs.FlowTables.{IsSet, LanesBelow, head_seen, new_tables, noted};
+ghost use Rattle.dev_flow_table.specs.Tables.{with_entry};
+ghost use Rattle.hop_core.specs.FlowTables.{IsSet, LanesBelow, head_from, new_tables, noted};
 ghost use Rattle.hop_core.specs.FlowTables.{table_at, with_rows};
 ghost use Rattle.hop_core.specs.Shape.{classes_for, most_classes};
 
-use dev_flow_table::DevTable;
+use crate::shared::{self, Owned};
+use dev_flow_table::{DevTable, Wish, entry_after};
 use std::alloc::Global;
 use std::marker::Model;
-use steer_base::{Choice, CpuMask, OutOfMemory, Put, number_at};
+use steer_base::{Choice, CpuMask, Entry, OutOfMemory, Put, Why, number_at};
 
 /// A flow table for each producer.
 #[derive(Drop)]
 pub struct Tables {
+    // Entries that each belong to at most one producer, in place of those of its own table. There
+    // are none if the numbers of classes are rounded up.
+    shared: Vec<Owned>,
     tables: Vec<DevTable>,
     start: u32,
     exact: bool,
 }
 
 impl Model for Tables {
-    ghost use Rattle.std.specs.Prelude.{◌≡◌, map};
+    ghost use Rattle.std.specs.Prelude.{◌≡◌, false, []};
     ghost use Rattle.std.specs.List.{All};
     ghost use Rattle.hop_core.specs.FlowTables.{FlowTables};
+    ghost use Rattle.hop_core.specs.SharedTable.{rows_from};
 
     ghost Value = { FlowTables };
 
     ghost view = { λ t. record {
-      rows = map (λ table. table.rows) t.tables.items;
+      rows = rows_from t.shared.items 0 t.tables.items;
       start = t.start;
       exact = t.exact;
     } };
 
-    ghost invariant = { λ t. All (λ table. (table.start ≡ t.start) × (table.exact ≡ t.exact))
-        t.tables.items };
+    ghost invariant = { λ t. (t.exact ≡ false → t.shared.items ≡ [])
+        × All (λ table. (table.start ≡ t.start) × (table.exact ≡ t.exact)) t.tables.items };
 }
 
 impl Tables {
@@ -57,6 +65,7 @@ impl Tables {
             tables.push(table_of(alloc, *count, start, exact)?)?;
         }
         Ok(Tables {
+            shared: shared::make(alloc, shared_count(counts, exact))?,
             tables,
             start,
             exact,
@@ -98,8 +107,19 @@ impl Tables {
         ensures tables { self.new
             ≡ with_rows self.old p (weighed (table_at self.old p) class result).rows }
     {
-        let table = &mut self.tables[p as usize];
-        weigh_at(table, self.start, retired, class, want, desired, online)
+        let Some(class) = class else {
+            return plain(desired);
+        };
+        let entry = self.entry(p, class);
+        let wish = Wish {
+            class,
+            want,
+            desired,
+        };
+        let choice = choose_by(entry, self.start, retired, wish, online);
+        let after = entry_after(self.start, entry, &choice);
+        self.write(p, class, after);
+        choice
     }
 
     /// Records the position of a packet that was put, if it was accepted.
@@ -109,8 +129,14 @@ impl Tables {
         requires set { IsSet (table_at self.old p) class }
         ensures { self.new ≡ with_rows self.old p (noted (table_at self.old p) class went).rows }
     {
-        let table = &mut self.tables[p as usize];
-        note_at(table, class, went);
+        if let (Some(class), Put::At(position)) = (class, went) {
+            let entry = self.entry(p, class);
+            let after = Entry {
+                tail: position,
+                ..entry
+            };
+            self.write(p, class, after);
+        }
     }
 
     /// Clears all entries of a table and resizes it to `count` of them, rounded up.
@@ -123,6 +149,34 @@ impl Tables {
     {
         let table = &mut self.tables[p as usize];
         table.resize(count);
+    }
+
+    // The entry of a class in a producer's table.
+    fn entry(&self, p: u8, class: u32) -> Entry
+        requires table { p < length self.now.rows }
+        requires class { class < length (table_at self.now p).rows }
+        ensures { result ≡ entries (table_at self.now p) class }
+    {
+        let shared = shared::at(&self.shared, class);
+        if shared.is_of(p) {
+            return shared.entry();
+        }
+        let table = &self.tables[p as usize];
+        table.entry(class)
+    }
+
+    // Replaces the entry of a class in a producer's table: the shared one, unless another producer
+    // has it.
+    fn write(&mut self, p: u8, class: u32, entry: Entry)
+        requires table { p < length self.old.rows }
+        requires class { class < length (table_at self.old p).rows }
+        ensures { self.new
+            ≡ with_rows self.old p (with_entry (table_at self.old p) class entry).rows }
+    {
+        if !shared::put(&mut self.shared, p, class, entry) {
+            let table = &mut self.tables[p as usize];
+            table.set(class, entry);
+        }
     }
 }
 
@@ -138,21 +192,41 @@ fn table_of(alloc: Global, count: u32, start: u32, exact: bool) -> Result<DevTab
     }
 }
 
-// The head of a class's current lane, if the migration rule looks at it.
-fn head_for(
-    table: &DevTable,
-    start: u32,
-    retired: &[u32],
-    class: Option<u32>,
-    desired: u8,
-    online: CpuMask,
-) -> Option<u32>
-    requires class { IsClassOf table.now class }
-    requires lanes { LanesBelow table.now (length retired.now) }
-    ensures { result ≡ head_seen table.now class desired (has online)
+// How many entries the producers share: the largest number of classes, if these are exact.
+fn shared_count(counts: &[u32], exact: bool) -> u32
+    ensures { exact ≡ false → result ≡ 0 }
+{
+    let mut most = 0;
+    if exact {
+        for count in counts {
+            most = most.max(*count);
+        }
+    }
+    most
+}
+
+// The choice for a packet without a class.
+fn plain(desired: u8) -> Choice
+    ensures { (want : Option ℕ) → (entries : ℕ → AnEntry) → (head : ℕ → ℕ) → (online : ℕ → Bool)
+        → result ≡ migrate None want desired entries head online }
+{
+    Choice {
+        class: None,
+        want: None,
+        head: None,
+        tail: None,
+        lane: desired,
+        why: Why::Plain,
+    }
+}
+
+// The head of the current lane of an entry, if the migration rule looks at it.
+fn head_for(entry: Entry, start: u32, retired: &[u32], desired: u8, online: CpuMask) -> Option<u32>
+    requires { IfSome entry.lane (λ lane. lane < length retired.now) }
+    ensures { result ≡ head_from entry.lane desired (has online)
         (λ lane. number start (slice_index retired.now lane)) }
 {
-    match table.current(class?) {
+    match entry.lane {
         Some(lane) if lane != desired && online.has(lane) => {
             Some(number_at(start, retired[lane as usize]))
         }
@@ -160,31 +234,12 @@ fn head_for(
     }
 }
 
-fn weigh_at(
-    table: &mut DevTable,
-    start: u32,
-    retired: &[u32],
-    class: Option<u32>,
-    want: Option<u8>,
-    desired: u8,
-    online: CpuMask,
-) -> Choice
-    requires class { IsClassOf table.old class }
-    requires lanes { LanesBelow table.old (length retired.now) }
-    ensures choice { result ≡ migrate class want desired (entries table.old)
-        (λ lane. number start (slice_index retired.now lane)) (has online) }
-    ensures table { table.new ≡ weighed table.old class result }
+// The choice by the rule over an entry.
+fn choose_by(entry: Entry, start: u32, retired: &[u32], wish: Wish, online: CpuMask) -> Choice
+    requires { IfSome entry.lane (λ lane. lane < length retired.now) }
+    ensures { result ≡ by_entry wish.class wish.want wish.desired entry.tail
+        (λ lane. number start (slice_index retired.now lane)) (has online) entry.lane }
 {
-    let head = head_for(table, start, retired, class, desired, online);
-    table.weigh(class, want, desired, head, online)
-}
-
-fn note_at(table: &mut DevTable, class: Option<u32>, went: Put)
-    requires class { IsClassOf table.old class }
-    requires set { IsSet table.old class }
-    ensures { table.new ≡ noted table.old class went }
-{
-    if let (Some(class), Put::At(position)) = (class, went) {
-        table.accepted(class, position);
-    }
+    let head = head_for(entry, start, retired, wish.desired, online);
+    dev_flow_table::choose(wish, entry, head, online)
 }

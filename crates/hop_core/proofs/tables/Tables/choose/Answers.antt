@@ -1,20 +1,17 @@
-use Rattle.std.proofs.Common.{◌<◌, length, ap, ◌∙◌}
-use Rattle.std.proofs.lemmas.List.{length-map}
-use Rattle.dev_flow_table.specs.Tables.{Table, weighed}
-use Rattle.hop_core.specs.FlowTables.{table_at, with_rows}
+use Rattle.std.proofs.Common.{ℕ, Option, ap, ◌∙◌, sym}
+use Rattle.std.specs.List.{slice_index}
+use Rattle.steer_base.specs.Choices.{migrate}
+use Rattle.steer_base.specs.Counters.{number}
+use Rattle.steer_base.specs.Sets.{has}
+use Rattle.dev_flow_table.specs.Tables.{entries}
+use Rattle.hop_core.specs.FlowTables.{table_at}
 use Rattle.hop_core.proofs.tables.Tables.choose.Goals as goal
-use Rattle.hop_core.proofs.LaneTables.{with_rows-tables_of}
 
-pub returns-clause-tables : goal.returns-clause-tables
-returns-clause-tables c =
-    let i = c.self.inside in
-    let old : Table = c.index_mut-table.result.now in
-    let below : c.args.p < length i.tables.items =
-    rw (← c.self.view_is, length-map) at c.requires.table in
-    let same = c.self.invariant c.args.p old below in
-    let at = c.index_mut-table.ensures.value in
-    with_rows-tables_of (λ t. weighed t c.args.class c.weigh_at.result) i.tables.items i.start
-    i.exact c.args.p old c.weigh_at.new.table below at
-    (ap (λ t. t.start) at ∙ same.0) (ap (λ t. t.exact) at ∙ same.1) c.weigh_at.ensures.table
-    ∙ ap (λ t. with_rows t c.args.p
-    (weighed (table_at t c.args.p) c.args.class c.weigh_at.result).rows) c.self.view_is
+pub returns-in_default-clause-choice : goal.returns-in_default-clause-choice
+returns-in_default-clause-choice c =
+    let a = c.args in
+    let heads : ℕ → ℕ = λ lane. number a.self.now.start (slice_index a.retired.now lane) in
+    let es = entries (table_at a.self.now a.p) in
+    c.plain.ensures a.want es heads (has a.online)
+    ∙ ap (λ (class : Option ℕ). migrate class a.want a.desired es heads (has a.online))
+    (sym c.in_default.is)

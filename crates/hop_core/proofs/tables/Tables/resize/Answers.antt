@@ -1,21 +1,41 @@
-use Rattle.std.proofs.Common.{◌<◌, false, length, replicate, ap, ◌∙◌}
-use Rattle.std.proofs.lemmas.List.{length-map}
+use Rattle.std.proofs.Common.{◌≡◌, [], replicate, ap, arith, ◌∙◌}
 use Rattle.steer_base.specs.Counters.{rounded_up}
-use Rattle.dev_flow_table.specs.Tables.{Table, cleared, unset}
+use Rattle.dev_flow_table.specs.Tables.{Table, unset}
 use Rattle.hop_core.specs.FlowTables.{with_rows}
+use Rattle.hop_core.proofs.SharedTables.{has_table, rows-cleared}
 use Rattle.hop_core.proofs.tables.Tables.resize.Goals as goal
-use Rattle.hop_core.proofs.LaneTables.{with_rows-tables_of}
+
+pub index_mut-table-requires : goal.index_mut-table-requires
+index_mut-table-requires c =
+    let i = c.self.inside in
+    let below = has_table i.shared.items i.tables.items c.args.p
+    (rw (← c.self.view_is) at c.requires.table) in
+    let counted = i.tables.ok.0 in
+    omega (arith, below, counted)
+
+pub resize-requires-clause-rounded : goal.resize-requires-clause-rounded
+resize-requires-clause-rounded c =
+    let i = c.self.inside in
+    let old : Table = c.index_mut-table.result.now in
+    let below = has_table i.shared.items i.tables.items c.args.p
+    (rw (← c.self.view_is) at c.requires.table) in
+    ap (λ t. t.exact) c.index_mut-table.ensures.value ∙ (c.self.invariant.1 c.args.p old below).1
+    ∙ ap (λ t. t.exact) c.self.view_is ∙ c.requires.rounded
 
 pub returns : goal.returns
 returns c =
     let i = c.self.inside in
+    let p = c.args.p in
     let old : Table = c.index_mut-table.result.now in
-    let below : c.args.p < length i.tables.items =
-    rw (← c.self.view_is, length-map) at c.requires.table in
-    let same = c.self.invariant c.args.p old below in
-    let at = c.index_mut-table.ensures.value in
-    with_rows-tables_of (λ t. cleared (rounded_up c.args.count) t.start false) i.tables.items
-    i.start i.exact c.args.p old c.resize.new.self below at
-    (ap (λ t. t.start) at ∙ same.0) (ap (λ t. t.exact) at ∙ same.1) c.resize.ensures
-    ∙ ap (λ t. with_rows t c.args.p (replicate (rounded_up c.args.count) (unset t.start)))
-    c.self.view_is
+    let below = has_table i.shared.items i.tables.items p
+    (rw (← c.self.view_is) at c.requires.table) in
+    let none : i.shared.items ≡ [] =
+    c.self.invariant.0 (ap (λ t. t.exact) c.self.view_is ∙ c.requires.rounded) in
+    let start = ap (λ t. t.start) c.index_mut-table.ensures.value
+    ∙ (c.self.invariant.1 p old below).0 in
+    ap (λ rows. record { rows = rows; start = i.start; exact = i.exact })
+    (rows-cleared i.shared.items i.tables.items p c.resize.new.self
+    (replicate (rounded_up c.args.count) (unset i.start)) none
+    (ap (λ t. t.rows) c.resize.ensures
+    ∙ ap (λ s. replicate (rounded_up c.args.count) (unset s)) start))
+    ∙ ap (λ t. with_rows t p (replicate (rounded_up c.args.count) (unset t.start))) c.self.view_is
