@@ -52,8 +52,10 @@ pub record MapsGoForward (i : Input) (h : History) (o : HopOrder (transmit_lists
 -- The lists of a history are those of a run. All that was done on the way in was done in one order:
 -- in it no more packets than the backlog ever waited at a processor, no packet was accepted that
 -- had to be dropped, and the settings go forward. All that was done on the way out was done in one
--- order too, in which the maps go forward. Between the two orders nothing is said. A filter or a
--- want that was seen was caused by an earlier packet, and no want is unset but by a command.
+-- order too, in which the maps go forward. Between the two orders nothing is said. A filter that
+-- was seen was set by the move of a packet that arrived earlier; a want that was seen was written
+-- for another packet than this one and those that its queue chose for later; and no want is unset
+-- but by a command.
 pub record IsByRun (i : Input) (h : History) : Type 0 where
   pub receive : HopOrder (receive_lists h)
   pub room : (m c : ℕ) → (receive.at m).accepted c ≤ (receive.at m).pulled c + i.plan.backlog

@@ -16,6 +16,7 @@ use Rattle.steer_base.specs.Counters.{rounded_up}
 use Rattle.steer_base.specs.declared.command.Command.TheVariants as give
 use Rattle.steer_model.specs.Good.Arrivals.{FilterFrom}
 use Rattle.steer_model.specs.Good.Inputs.{Input, WasDone, setup_in, settings_at}
+use Rattle.steer_model.specs.Good.Writes.{IsSize}
 use Rattle.steer_model.specs.State.Setup.{packet_hash}
 
 -- ---- filters
@@ -30,13 +31,14 @@ FiltersAreOlder i h =
 -- ---- wants
 
 -- The n-th write of an application was made for its k-th reply's packet: the entry is that of the
--- packet's hash, by some size of the socket flow table.
+-- packet's hash, by a size that the socket flow table had in the run.
 pub record IsWriteFor (i : Input) (h : History) (app n k : ℕ) : Type 0 where
   pub write : SockWrite
   pub sent : Sent
   pub is : slice_get (list_at h.writes app) n ≡ Some write
   pub for : slice_get (list_at h.sent app) k ≡ Some sent
   pub size : ℕ
+  pub is_size : IsSize i h size
   pub entry : class_of size (packet_hash (setup_in i) sent.id) ≡ Some write.entry
 
 -- Each write of an application was made for a packet that it took: the write's number gives that of

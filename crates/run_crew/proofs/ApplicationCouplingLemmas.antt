@@ -498,7 +498,7 @@ module _ (i : Input) (h : History) (rx_own : ℕ → List BoardStep) (rx_seat : 
       let notes : List Note = oldest_first (steps_of s.app noted) in
       let made = made-for i s.app s.home (rx_own rx_seat) seat.steps
       (at-place (λ cpu. cpu < i.plan.cpus) i.plan.apps s.app s.home i.plan.within.apps_within home)
-      s.sent.items notes
+      h rx_own c seats (read_at i h rx_own rx_seat c seats seat codes among) s.sent.items notes
       (subst (λ ids. HasWrittenAll (setup_in i) s.app s.home (rx_own rx_seat) seat.steps ids notes)
       taken x.notes) in (
         made.0,
@@ -553,8 +553,9 @@ module _ (i : Input) (h : History) (rx_own : ℕ → List BoardStep) (rx_seat : 
               AreRecorded i h c seats rx_own s.app z.0 z.1) (λ j. (taken j, sym x.writes j))
               (recorded i h rx_own rx_seat c seats seat codes among s.app s.home home (taken_by s)
               notes x.notes);
-          made = λ within. subst (λ ws. AreMadeFor i s.sent.items ws notes made.0) (sym x.writes)
-              made.1;
+          made = λ within.
+              subst (λ ws. AreMadeFor i h rx_own c seats s.sent.items ws notes made.0)
+              (sym x.writes) made.1;
         },
       )
 

@@ -1,20 +1,23 @@
 -- What an application noted was for the packets that it took, in their order.
-use Rattle.std.proofs.Common.{◌≡◌, inl, inr, ℕ, zero, suc, ◌%◌, ◌<◌, ◌≤◌, List, [], ◌∷◌, Option}
-use Rattle.std.proofs.Common.{Some, None, length, map, sym, refl, ◌∙◌, subst, arith}
+use Rattle.std.proofs.Common.{◌≡◌, inl, inr, ℕ, zero, suc, ◌*◌, ◌%◌, ◌<◌, ◌≤◌, List, []}
+use Rattle.std.proofs.Common.{◌∷◌, Option, Some, None, length, map, sym, refl, ◌∙◌, subst, arith}
 use Rattle.std.specs.Prelude.{nat_le, nat_lt, slice_get, unwrap_or}
 use Rattle.std.specs.Option.{option_map}
 use Rattle.std.proofs.lemmas.Bool.{cases_Bool, leb-true, ltb-true}
 use Rattle.std.proofs.lemmas.Option.{slice_get-map}
+use Rattle.linearization.specs.Seats.{SeatView}
 use Rattle.steer_base.specs.Choices.{class_of}
 use Rattle.steer_base.specs.declared.limits.TheConstants.{MAX_SOCKET_SIZE}
+use Rattle.history.specs.declared.history.History.{History}
 use Rattle.history.specs.declared.sent.Sent.{Sent}
 use Rattle.hint_words.specs.declared.step.HintStep.{HintStep}
 use Rattle.hop_rule.specs.declared.step.BoardStep.{BoardStep}
 use Rattle.hop_rule.proofs.Lists.{none-some, some-is}
 use Rattle.steer_model.specs.Good.Inputs.{Input, setup_in}
 use Rattle.steer_model.specs.State.Setup.{packet_hash}
+use Rattle.run_coupling.specs.Coupling.Hints.{HintCodes, WasRead}
 use Rattle.run_words.specs.Values.{place_in, socket_size_in}
-use Rattle.run_workers.specs.Records.Replying.{HasStood, HasWritten, HasWrittenAll}
+use Rattle.run_workers.specs.Records.Replying.{HasReadInside, HasStood, HasWritten, HasWrittenAll}
 use Rattle.run_workers.specs.Records.Words.{Note}
 use Rattle.run_crew.specs.ApplicationCoupling.{AreMadeFor, IsNoteFor}
 use Rattle.run_crew.proofs.WithinLemmas.{place-within}
@@ -39,21 +42,31 @@ size_within size = elim (cases_Bool (nat_le size MAX_SOCKET_SIZE)) [
   | inr more ↦ rw more (omega arith)
 ]
 
+-- a size that is not 0 is within its range
+size_in : (size : ℕ) → 0 < socket_size_in size → socket_size_in size ≡ size
+size_in size some = elim (cases_Bool (nat_le size MAX_SOCKET_SIZE)) [
+  | inl less ↦ rw less refl
+  | inr more ↦ absurd (let none : 0 < 0 = rw more at some in omega (arith, none))
+]
+
 -- ---- the packet of each note
 
--- The note is of the k-th of these packets.
-record IsNoteOf (i : Input) (ids : List ℕ) (k : ℕ) (note : Note) : Type 0 where
+-- The note is of the k-th of these packets, by a size that was read.
+record IsNoteOf (i : Input) (rx : List BoardStep) (ids : List ℕ) (k : ℕ) (note : Note)
+    : Type 0 where
   packet : slice_get ids k ≡ Some note.packet
   size : ℕ
+  read : HasReadInside rx (2 * length (setup_in i).homes) size
   entry : class_of size (packet_hash (setup_in i) note.packet) ≡ Some note.write.entry
   entry_within : note.write.entry < MAX_SOCKET_SIZE
   cpu_within : note.write.cpu < i.plan.cpus
 
 -- Each note is of another packet, in their order.
-record AreNotesOf (i : Input) (ids : List ℕ) (notes : List Note) : Type 0 where
+record AreNotesOf (i : Input) (rx : List BoardStep) (ids : List ℕ) (notes : List Note)
+    : Type 0 where
   place : ℕ → ℕ
   rise : (m n : ℕ) → m < n → n < length notes → place m < place n
-  each : (n : ℕ) (note : Note) → slice_get notes n ≡ Some note → IsNoteOf i ids (place n) note
+  each : (n : ℕ) (note : Note) → slice_get notes n ≡ Some note → IsNoteOf i rx ids (place n) note
 
 module _ (i : Input) (app home : ℕ) (rx : List BoardStep) (hints : List HintStep)
     (low : home < i.plan.cpus) where
@@ -66,21 +79,22 @@ module _ (i : Input) (app home : ℕ) (rx : List BoardStep) (hints : List HintSt
       at (Some place) some is =
           let less = place-within word i.plan.cpus place some in omega (arith, is, less)
 
-  later : (id : ℕ) (ids : List ℕ) (k : ℕ) (note : Note) → IsNoteOf i ids k note
-      → IsNoteOf i (id ∷ ids) (suc k) note
+  later : (id : ℕ) (ids : List ℕ) (k : ℕ) (note : Note) → IsNoteOf i rx ids k note
+      → IsNoteOf i rx (id ∷ ids) (suc k) note
   later id ids k note x =
       record {
         packet = x.packet;
         size = x.size;
+        read = x.read;
         entry = x.entry;
         entry_within = x.entry_within;
         cpu_within = x.cpu_within;
       }
 
   notes-of : (ids : List ℕ) (notes : List Note)
-      → HasWrittenAll (setup_in i) app home rx hints ids notes → AreNotesOf i ids notes
+      → HasWrittenAll (setup_in i) app home rx hints ids notes → AreNotesOf i rx ids notes
   notes-of [] notes none =
-      subst (AreNotesOf i []) (sym none) (record {
+      subst (AreNotesOf i rx []) (sym none) (record {
         place = λ n. n;
         rise = λ m n less within. less;
         each = λ n note at. none-some note at;
@@ -91,17 +105,17 @@ module _ (i : Input) (app home : ℕ) (rx : List BoardStep) (hints : List HintSt
     where
       by-entry : (entry : Option ℕ)
           → class_of (socket_size_in size) (packet_hash (setup_in i) id) ≡ entry
-          → HasWritten (setup_in i) app home rx hints id entry rest notes → AreNotesOf i ids rest
-          → AreNotesOf i (id ∷ ids) notes
+          → HasWritten (setup_in i) app home rx hints id entry rest notes → AreNotesOf i rx ids rest
+          → AreNotesOf i rx (id ∷ ids) notes
       by-entry None is same x =
-          subst (AreNotesOf i (id ∷ ids)) (sym same) (record {
+          subst (AreNotesOf i rx (id ∷ ids)) (sym same) (record {
             place = λ n. suc (x.place n);
             rise = λ m n less within.
                 (let r = x.rise m n less within in omega (arith, r));
             each = λ n note at. later id ids (x.place n) note (x.each n note at);
           })
       by-entry (Some entry) is (cpu, stood, same) x =
-          subst (AreNotesOf i (id ∷ ids)) (sym same)
+          subst (AreNotesOf i rx (id ∷ ids)) (sym same)
           (record { place = place; rise = rise; each = each })
         where
           place : ℕ → ℕ
@@ -115,7 +129,7 @@ module _ (i : Input) (app home : ℕ) (rx : List BoardStep) (hints : List HintSt
           rise (suc m) (suc n) less within =
               let r = x.rise m n (omega (arith, less)) (omega (arith, within)) in omega (arith, r)
 
-          first : IsNoteOf i (id ∷ ids) zero (record {
+          first : IsNoteOf i rx (id ∷ ids) zero (record {
             packet = id;
             write = record { entry = entry; cpu = cpu };
           })
@@ -125,17 +139,19 @@ module _ (i : Input) (app home : ℕ) (rx : List BoardStep) (hints : List HintSt
               let most = size_within size in
               record {
                 packet = refl;
-                size = socket_size_in size;
-                entry = is;
+                size = size;
+                read = reads;
+                entry = subst (λ n. class_of n (packet_hash (setup_in i) id) ≡ Some entry)
+                    (size_in size (omega (arith, less))) is;
                 entry_within = omega (arith, less, most);
                 cpu_within = stood-within cpu stood;
               }
 
           each : (n : ℕ) (note : Note)
               → slice_get (record { packet = id; write = record { entry = entry; cpu = cpu } }
-              ∷ rest) n ≡ Some note → IsNoteOf i (id ∷ ids) (place n) note
+              ∷ rest) n ≡ Some note → IsNoteOf i rx (id ∷ ids) (place n) note
           each zero note at =
-              subst (IsNoteOf i (id ∷ ids) zero)
+              subst (IsNoteOf i rx (id ∷ ids) zero)
               (some-is (record { packet = id; write = record { entry = entry; cpu = cpu } }) note
               at) first
           each (suc n) note at = later id ids (x.place n) note (x.each n note at)
@@ -154,21 +170,27 @@ module _ (i : Input) (app home : ℕ) (rx : List BoardStep) (hints : List HintSt
       by (Some s) some is = (s, some, some-is s.id id is)
 
   -- the notes of an application were made for its replies' packets
-  pub made-for : (sent : List Sent) (notes : List Note)
+  pub made-for : (h : History) (rx_own : ℕ → List BoardStep) (c : HintCodes)
+      (seats : List (SeatView HintStep))
+      → ((size : ℕ) → HasReadInside rx (2 * length (setup_in i).homes) size
+      → WasRead i h c seats rx_own size)
+      → (sent : List Sent) (notes : List Note)
       → HasWrittenAll (setup_in i) app home rx hints (map (λ (s : Sent). s.id) sent) notes
       → (reply : ℕ → ℕ)
-      × AreMadeFor i sent (map (λ (n : Note). n.write) notes) notes reply
-  made-for sent notes wrote =
+      × AreMadeFor i h rx_own c seats sent (map (λ (n : Note). n.write) notes) notes reply
+  made-for h rx_own c seats was-read sent notes wrote =
       let x = notes-of (map (λ (s : Sent). s.id) sent) notes wrote in (
         x.place,
         record {
           are = refl;
           rise = x.rise;
           each = λ n note at. is-for (x.place n) note (x.each n note at);
+          read = λ n note at.
+              (let y = x.each n note at in was-read y.size y.read);
         },
       )
     where
-      is-for : (k : ℕ) (note : Note) → IsNoteOf i (map (λ (s : Sent). s.id) sent) k note
+      is-for : (k : ℕ) (note : Note) → IsNoteOf i rx (map (λ (s : Sent). s.id) sent) k note
           → IsNoteFor i sent k note
       is-for k note y =
           let r = reply-at sent k note.packet y.packet in

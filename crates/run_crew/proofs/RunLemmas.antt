@@ -364,7 +364,7 @@ module _ (laws : RecordLaws) (i : Input) (h : History) (e : RunEnds i h) where
 
   -- ---- writes
 
-  writes-marked : WritesAreMarked i h e.codes e.hint_seats
+  writes-marked : WritesAreMarked i h e.codes e.hint_seats (own_in e.rx_seats)
   writes-marked =
       record {
         reply = sent-coupled.reply;
@@ -394,7 +394,8 @@ module _ (laws : RecordLaws) (i : Input) (h : History) (e : RunEnds i h) where
           ∙ length-map (oldest_first (steps_of a (e.turns (a % W)).noted)) (λ (z : Note). z.write)
 
       for-reply : (a n : ℕ) → a < length i.plan.apps → n < length (list_at h.writes a)
-          → IsMadeFor i h e.codes e.hint_seats a n (sent-coupled.reply a n)
+          → IsMadeFor i h e.codes e.hint_seats (own_in e.rx_seats) a n
+          (sent-coupled.reply a n)
       for-reply a n less within =
           let made = sent-coupled.made a less in
           let count = note-count a less in
@@ -410,12 +411,14 @@ module _ (laws : RecordLaws) (i : Input) (h : History) (e : RunEnds i h) where
                 ∙ ap (option_map (λ (z : Note). z.write)) note.1);
             for = for.for;
             size = for.size;
+            read = made.read n note.0 note.1;
             entry = for.entry;
           }
 
   -- ---- all marks
 
-  keeps-marks : KeepsMarks i h e.codes e.hint_seats execution queues-coupled.seen
+  keeps-marks : KeepsMarks i h e.codes e.hint_seats (own_in e.rx_seats) execution
+      queues-coupled.seen
       queues-coupled.wants
   keeps-marks =
       record {

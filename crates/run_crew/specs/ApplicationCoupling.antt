@@ -23,7 +23,7 @@ use Rattle.run_workers.specs.declared.server.Server.{Server}
 use Rattle.run_coupling.specs.Laws.SharedCodes.{AreShared}
 use Rattle.run_coupling.specs.Coupling.Applications.{FitTransmitWords, WasFoundAt}
 use Rattle.run_coupling.specs.Coupling.Ends.{AllArrived}
-use Rattle.run_coupling.specs.Coupling.Hints.{AreRecorded, CameBy, HintCodes, Stands}
+use Rattle.run_coupling.specs.Coupling.Hints.{AreRecorded, CameBy, HintCodes, Stands, WasRead}
 use Rattle.run_coupling.specs.Coupling.OwnTables.{IsByTable}
 use Rattle.run_words.specs.Lists.{oldest_first}
 use Rattle.run_workers.specs.Records.Replying.{IsReplying, RepliedTurn}
@@ -49,13 +49,17 @@ pub record IsNoteFor (i : Input) (sent : List Sent) (k : ℕ) (note : Note) : Ty
   pub entry_within : note.write.entry < MAX_SOCKET_SIZE
   pub cpu_within : note.write.cpu < i.plan.cpus
 
--- These writes are those that were noted, each made for another reply's packet, in their order.
-pub record AreMadeFor (i : Input) (sent : List Sent) (writes : List SockWrite) (notes : List Note)
-    (reply : (write : ℕ) → ℕ) : Type 0 where
+-- These writes are those that were noted, each made for another reply's packet, in their order,
+-- by a size that was read in a visit.
+pub record AreMadeFor (i : Input) (h : History) (rx_own : ℕ → List BoardStep) (c : HintCodes)
+    (seats : List (SeatView HintStep)) (sent : List Sent) (writes : List SockWrite)
+    (notes : List Note) (reply : (write : ℕ) → ℕ) : Type 0 where
   pub are : writes ≡ map (λ (n : Note). n.write) notes
   pub rise : (m n : ℕ) → m < n → n < length notes → reply m < reply n
   pub each : (n : ℕ) (note : Note) → slice_get notes n ≡ Some note
       → IsNoteFor i sent (reply n) note
+  pub read : (n : ℕ) (note : Note) (at : slice_get notes n ≡ Some note)
+      → WasRead i h c seats rx_own (each n note at).size
 
 -- The coupling invariants of application a with its turns, replies and writes: it found each packet
 -- at its place in the inbox; each turn knows all maps, of which `seen` are the values; if they are
@@ -82,7 +86,7 @@ pub record IsApplicationCoupled (i : Input) (h : History) (rx_own : ℕ → List
   pub stands : All (λ (s : Sent). Stands i h c seats a s.cpu) sent
   pub writes_are : AreRecorded i h c seats rx_own a (map (λ (s : Sent). s.id) sent) writes
   pub made : a < length i.plan.apps
-      → AreMadeFor i sent writes (oldest_first (steps_of a noted)) reply
+      → AreMadeFor i h rx_own c seats sent writes (oldest_first (steps_of a noted)) reply
 
 -- The record of an application with an empty hand, over the turns of its seat, gives its coupling
 -- invariants.

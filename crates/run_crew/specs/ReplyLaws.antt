@@ -67,7 +67,7 @@ pub record ApplicationsCoupled (i : Input) (h : History) (t : StageView) (crew :
       (map (λ (s : Sent). s.id) (list_at h.sent a)) (list_at h.writes a)
   pub reply : (app write : ℕ) → ℕ
   pub made : (a : ℕ) → a < length i.plan.apps
-      → AreMadeFor i (list_at h.sent a) (list_at h.writes a)
+      → AreMadeFor i h rx_own c seats (list_at h.sent a) (list_at h.writes a)
       (oldest_first (steps_of a (turns (a % length crew)).noted)) (reply a)
 
 -- The applications keep their coupling invariants with a history that has their journals.

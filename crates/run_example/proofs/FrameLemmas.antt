@@ -73,14 +73,14 @@ pub record KeepsHints (i : Input) (h : History)
   pub ended : HaveEnded seats
   pub meant : StoresAreMeant i h shared seats t
   pub used : LoadsAreUsed i h shared seats rx_own t seen
-  pub marks : KeepsMarks i h shared seats t seen used.wants
+  pub marks : KeepsMarks i h shared seats rx_own t seen used.wants
 
 -- how loads were used, and in which order with the marks
 abbrev UsesInOrder : Input → History → List (SeatView HintStep) → (ℕ → List BoardStep) → Execution
     → (ℕ → ℕ → ℕ → ℕ) → Type 0
 UsesInOrder i h seats rx_own t seen =
     (used : LoadsAreUsed i h shared seats rx_own t seen)
-    × KeepsMarks i h shared seats t seen used.wants
+    × KeepsMarks i h shared seats rx_own t seen used.wants
 
 module _ (i : Input) (h : History) (rx : BoardSizes)
     (rx_order : List (StepBy BoardStep)) (rx_ends : MayEnd rx rx_order) (tx : BoardSizes)

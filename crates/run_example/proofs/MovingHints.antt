@@ -32,7 +32,7 @@ use Rattle.run_example.specs.MovingRun.{flow_entry, flow_filter, its_mark, its_q
 use Rattle.run_example.specs.MovingRun.{moving_hint_order, moving_history, moving_seats}
 use Rattle.run_example.specs.MovingRun.{to_other_queue, wire_steps, worker_steps}
 use Rattle.run_coupling.specs.Coupling.Hints.{LookedUp, StoresAreMeant, WantsAreLoaded}
-use Rattle.run_coupling.specs.Coupling.Hints.{WasFiltered, WasLoaded, entry_of}
+use Rattle.run_coupling.specs.Coupling.Hints.{WasFiltered, WasLoaded, WasRead, entry_of}
 use Rattle.run_coupling.specs.Coupling.Inputs.{receive_queues}
 use Rattle.run_coupling.specs.Coupling.Marks.{EntriesAreWritten, FiltersAreAnnounced, FoundSet}
 use Rattle.run_coupling.specs.Coupling.Marks.{IsMadeFor, IsMarkedWrite, KeepsMarks, LoadsFilter}
@@ -42,7 +42,7 @@ use Rattle.run_coupling.proofs.Runs.CodeLemmas.{shared}
 use Rattle.run_example.proofs.HintLemmas.{EachStore, all_by_test, lawful_by_test, number_of}
 use Rattle.run_example.proofs.HintLemmas.{store_of_each, write_of_each}
 use Rattle.run_example.proofs.ListLemmas.{all_of_each}
-use Rattle.run_example.proofs.MovingBoards.{i}
+use Rattle.run_example.proofs.MovingBoards.{i, rx_own}
 use Rattle.run_example.proofs.MovingTurns as turns
 use Rattle.run_example.proofs.MovingTurns.{rx_seen, rx_execution}
 
@@ -511,7 +511,11 @@ module _ (table : TableId) where
   marks-of-turns seat x n value among less at =
       at-mark seat n x value less (known seat n (shared.steered x) value among at)
 
-  writes-marked : WritesAreMarked i moving_history shared seats
+  -- the application read the size of the table in a visit
+  pub size-was-read : WasRead i moving_history shared seats rx_own 2
+  size-was-read = record { seat = 0; step = 3; does = refl; in_visit = refl }
+
+  writes-marked : WritesAreMarked i moving_history shared seats rx_own
   writes-marked =
       record {
         reply = reply;
@@ -528,7 +532,8 @@ module _ (table : TableId) where
       made : (n : ℕ) (s : Sent)
           → slice_get (list_at moving_history.writes 0) n ≡ Some its_write
           → slice_get (list_at moving_history.sent 0) n ≡ Some s
-          → packet_hash (setup_in i) s.id ≡ Some 2 → IsMadeFor i moving_history shared seats 0 n n
+          → packet_hash (setup_in i) s.id ≡ Some 2
+          → IsMadeFor i moving_history shared seats rx_own 0 n n
       made n s is for has =
           record {
             write = its_write;
@@ -536,11 +541,12 @@ module _ (table : TableId) where
             is = is;
             for = for;
             size = 2;
+            read = size-was-read;
             entry = ap (class_of 2) has;
           }
 
       made-for : (a n : ℕ) → n < length (list_at moving_history.writes a)
-          → IsMadeFor i moving_history shared seats a n n
+          → IsMadeFor i moving_history shared seats rx_own a n n
       made-for zero zero less = made 0 sent_first refl refl refl
       made-for zero (suc zero) less = made 1 sent_second refl refl refl
       made-for zero (suc (suc zero)) less = made 2 sent_third refl refl refl
@@ -555,7 +561,7 @@ module _ (table : TableId) where
       (known by.seat r.0 place value by.among r.1) in
       inl (1, w.value_is, omega arith)
 
-  pub marks-kept : KeepsMarks i moving_history shared seats rx_execution rx_seen wants
+  pub marks-kept : KeepsMarks i moving_history shared seats rx_own rx_execution rx_seen wants
   marks-kept =
       record {
         wire = wire-in-turn;

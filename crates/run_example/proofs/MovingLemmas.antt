@@ -33,14 +33,14 @@ use Rattle.run_example.specs.MovingRun.{to_other_queue, wire_steps, worker_steps
 use Rattle.run_coupling.specs.Coupling.Applications.{KeepsApplications, WasFoundAt}
 use Rattle.run_coupling.specs.Coupling.Hints.{AreRecorded, CameBy, IsRouted, LoadsAreUsed}
 use Rattle.run_coupling.specs.Coupling.Hints.{Stands}
-use Rattle.run_coupling.specs.Coupling.Hints.{WasRead}
 use Rattle.run_coupling.specs.Coupling.Inputs.{FlowsHaveOneHash}
 use Rattle.run_coupling.specs.Coupling.Runs.{ReceiveCoupling, TransmitCoupling}
 use Rattle.run_coupling.proofs.Runs.CodeLemmas.{shared}
 use Rattle.run_example.proofs.FrameLemmas.{KeepsHints, run_of}
 use Rattle.run_example.proofs.MovingBoards as boards
 use Rattle.run_example.proofs.MovingHints.{by-wire, by-worker, ended, marks-kept, meant, no-filter}
-use Rattle.run_example.proofs.MovingHints.{none, seats, sent_first, sent_second, sent_third, wants}
+use Rattle.run_example.proofs.MovingHints.{none, seats, sent_first, sent_second, sent_third}
+use Rattle.run_example.proofs.MovingHints.{size-was-read, wants}
 use Rattle.run_example.proofs.MovingBoards.{i, rx_own, tx_own}
 use Rattle.run_example.proofs.MovingTurns as turns
 use Rattle.run_example.proofs.MovingTurns.{rx_seen, rx_execution, tx_seen, tx_execution}
@@ -183,9 +183,6 @@ module _ (table : TableId) where
       stands (suc a) =
           All-nil (λ (s : Sent). Stands i moving_history shared (moving_seats table) (suc a) s.cpu)
 
-      read : WasRead i moving_history shared (moving_seats table) rx_own 2
-      read = record { seat = 0; step = 3; does = refl; in_visit = refl }
-
       writes : (a : ℕ) → AreRecorded i moving_history shared (moving_seats table) rx_own a
           (map (λ (s : Sent). s.id) (list_at moving_history.sent a))
           (list_at moving_history.writes a)
@@ -197,7 +194,7 @@ module _ (table : TableId) where
             2,
             refl,
             refl,
-            read,
+            size-was-read table,
             refl,
             stood (19, omega arith, refl),
             inr (inl (
@@ -207,7 +204,7 @@ module _ (table : TableId) where
               2,
               refl,
               refl,
-              read,
+              size-was-read table,
               refl,
               stood (10, omega arith, refl),
               inr (inl (
@@ -217,7 +214,7 @@ module _ (table : TableId) where
                 2,
                 refl,
                 refl,
-                read,
+                size-was-read table,
                 refl,
                 stood (3, omega arith, refl),
                 refl,

@@ -27,7 +27,7 @@ use Rattle.run_coupling.specs.Coupling.Hints.{WasFiltered}
 use Rattle.run_coupling.specs.Coupling.Runs.{IsRun}
 use Rattle.run_coupling.proofs.Runs.PutTurnLemmas.{put-of}
 use Rattle.run_coupling.proofs.Runs.TurnListLemmas.{turn-chosen}
-use Rattle.run_goodness.proofs.Runs.HintLemmas.{class-below}
+use Rattle.run_goodness.proofs.Runs.HintLemmas.{class-below, filter-of}
 use Rattle.run_goodness.proofs.Runs.ReceiveLemmas as receives
 use Rattle.run_goodness.proofs.Runs.RunLemmas as runs
 use Rattle.headline.specs.OrdersOfWords.{FiltersAreOlder}
@@ -36,45 +36,6 @@ use Rattle.run_promise.proofs.WordLemmas.{found-stored, in-turn, moment, was-sto
 module _ (i : Input) (h : History) (run : IsRun i h) where
   abbrev rx_own : ℕ → List BoardStep
   rx_own = own_in run.rx_seats
-
-  -- a filter that was set comes from the choice of its turn
-  filter-of : (hash place queue : ℕ) (w : WasFiltered i run.queues place queue)
-      → filter_place i.plan.filters (Some hash) ≡ Some place
-      → (f : FilterFrom i h hash queue) × (f.choice.id ≡ w.turn.chosen.id)
-  filter-of hash place queue w here =
-      let u : Turn = w.turn in
-      let put = put-of rx_own run.queues run.received.queues.turns w.producer w.index u w.is in
-      let at : IsPutAt run.rx.start
-      (place_in u.chosen.id (accepted_left run.rx_lists u.chosen.choice.lane))
-      (Some (At w.position)) =
-      subst (λ (a : Put).
-      IsPutAt run.rx.start (place_in u.chosen.id (accepted_left run.rx_lists u.chosen.choice.lane))
-      (Some a)) w.accepted
-      ((runs.rx-facts i h run).answers
-      (turns_put_once rx_own run.queues (runs.rx-turns i h run)) (run.queues.seat w.producer) put.0
-      u.chosen.choice.lane u.chosen.id u.hash u.answer put.1) in (
-        record {
-          queue = w.producer;
-          choice = u.chosen;
-          chosen = (
-            w.index,
-            ap (λ cs. slice_get cs w.index) (run.received.queues.choices w.producer)
-                ∙ turn-chosen rx_own run.queues run.received.queues.turns w.producer w.index u
-                w.is,
-          );
-          moved = w.moved;
-          home = w.home;
-          accepted =
-              ap (λ (ls : List LaneList). is_in u.chosen.id
-              (lane_at ls u.chosen.choice.lane).accepted)
-              run.received.board.lanes
-              ∙ ap is_some at.1;
-          place = place;
-          there = w.there;
-          here = here;
-        },
-        refl,
-      )
 
   turn-known : (q k : ℕ) (u : Turn)
       → nth_step (turns_of run.queues q) k ≡ Some u
@@ -99,7 +60,7 @@ module _ (i : Input) (h : History) (run : IsRun i h) where
       store.step
       (Store (run.codes.filter look.place) (run.codes.filter_value look.filter)) store.among set.1
       store.stores in
-      let from = filter-of hash look.place look.filter.queue set.0 look.here in
+      let from = filter-of i h run hash look.place look.filter.queue set.0 look.here in
       let circle : a.id ≤ x → ⊥ = λ le.
       (let t = wire.tells told.seat a.id x told.step set.1.value hash told.among le
       (turn-known set.0.producer set.0.index set.0.turn set.0.is) has told.stores in

@@ -345,6 +345,7 @@ module _ (i : Input) (h : History) (run : IsRun i h) where
             is = w.is;
             for = w.for;
             size = w.size;
+            is_size = hints.size-read i h run w.size w.read;
             entry = w.entry;
           }
 

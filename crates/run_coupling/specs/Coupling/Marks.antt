@@ -8,6 +8,7 @@ use Rattle.hint_words.specs.Closings.{IsWrittenBy}
 use Rattle.hint_words.specs.declared.step.HintStep.{HintStep}
 use Rattle.hint_words.specs.declared.step.HintStep.TheVariants.{Load, Store}
 use Rattle.hop_rule.specs.Moments.{nth_step}
+use Rattle.hop_rule.specs.declared.step.BoardStep.{BoardStep}
 use Rattle.hop_delivery.specs.Orders.Runs.{Execution, turns_of}
 use Rattle.hop_delivery.specs.Orders.Turns.{Turn}
 use Rattle.history.specs.Lists.{list_at}
@@ -23,7 +24,7 @@ use Rattle.steer_base.specs.declared.filter.Filter.{Filter}
 use Rattle.steer_base.specs.declared.limits.TheConstants.{MAX_SOCKET_SIZE}
 use Rattle.steer_model.specs.Good.Inputs.{Input, WasDone, setup_in}
 use Rattle.steer_model.specs.State.Setup.{packet_hash}
-use Rattle.run_coupling.specs.Coupling.Hints.{HintCodes, WantsAreLoaded, WasFiltered}
+use Rattle.run_coupling.specs.Coupling.Hints.{HintCodes, WantsAreLoaded, WasFiltered, WasRead}
 
 -- Before its step n the seat loaded this word, which was set.
 pub record FoundSet (seat : SeatView HintStep) (word n : ℕ) : Type 0 where
@@ -92,13 +93,14 @@ module _ (i : Input) (h : History) (c : HintCodes) (seats : List (SeatView HintS
   -- ---- writes of applications
 
   -- The n-th write of an application was made for its k-th reply's packet: the entry is that of the
-  -- packet's hash.
-  pub record IsMadeFor (app n k : ℕ) : Type 0 where
+  -- packet's hash, by a size that was read in a visit.
+  pub record IsMadeFor (rx_own : ℕ → List BoardStep) (app n k : ℕ) : Type 0 where
     pub write : SockWrite
     pub sent : Sent
     pub is : slice_get (list_at h.writes app) n ≡ Some write
     pub for : slice_get (list_at h.sent app) k ≡ Some sent
     pub size : ℕ
+    pub read : WasRead i h c seats rx_own size
     pub entry : class_of size (packet_hash (setup_in i) sent.id) ≡ Some write.entry
 
   -- A store at an entry was such a write, and the seat had found its packet marked.
@@ -113,10 +115,11 @@ module _ (i : Input) (h : History) (c : HintCodes) (seats : List (SeatView HintS
 
   -- Each write of an application was made for a packet that it took, each for another one, in their
   -- order; and before it the application found the packet marked as steered.
-  pub record WritesAreMarked : Type 0 where
+  pub record WritesAreMarked (rx_own : ℕ → List BoardStep) : Type 0 where
     pub reply : (app write : ℕ) → ℕ
     pub rise : (a m n : ℕ) → m < n → n < length (list_at h.writes a) → reply a m < reply a n
-    pub made_for : (a n : ℕ) → n < length (list_at h.writes a) → IsMadeFor a n (reply a n)
+    pub made_for : (a n : ℕ) → n < length (list_at h.writes a)
+        → IsMadeFor rx_own a n (reply a n)
     pub stored : (seat : SeatView HintStep) (n place cpu : ℕ) → Contains seats seat
         → place < MAX_SOCKET_SIZE
         → nth_step seat.steps n ≡ Some (Store (c.socket place) (c.place cpu))
@@ -131,10 +134,10 @@ module _ (i : Input) (h : History) (c : HintCodes) (seats : List (SeatView HintS
       ⊎ ((size : ℕ) × (value ≡ 0) × WasDone h (give.Sock size))
 
   -- All this is so.
-  pub record KeepsMarks (t : Execution) (seen : ℕ → ℕ → ℕ → ℕ)
+  pub record KeepsMarks (rx_own : ℕ → List BoardStep) (t : Execution) (seen : ℕ → ℕ → ℕ → ℕ)
       (wants : WantsAreLoaded i h c seats t seen) : Type 0 where
     pub wire : WireIsInTurn
     pub filters : FiltersAreAnnounced t
     pub marks : MarksAreOfTurns t seen wants
-    pub writes : WritesAreMarked
+    pub writes : WritesAreMarked rx_own
     pub entries : EntriesAreWritten

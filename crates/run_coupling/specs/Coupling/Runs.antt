@@ -90,4 +90,4 @@ pub record IsRun (i : Input) (h : History) : Type 0 where
   pub hints_ended : HaveEnded hint_seats
   pub meant : StoresAreMeant i h codes hint_seats queues
   pub used : LoadsAreUsed i h codes hint_seats (own_in rx_seats) queues queues_seen
-  pub marks : KeepsMarks i h codes hint_seats queues queues_seen used.wants
+  pub marks : KeepsMarks i h codes hint_seats (own_in rx_seats) queues queues_seen used.wants

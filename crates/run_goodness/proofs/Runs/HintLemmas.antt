@@ -144,9 +144,11 @@ module _ (i : Input) (h : History) (run : IsRun i h) where
 
   -- ---- 2: queues
 
-  pub filter-from : (hash place queue : ℕ) → WasFiltered i run.queues place queue
-      → filter_place i.plan.filters (Some hash) ≡ Some place → FilterFrom i h hash queue
-  filter-from hash place queue w here =
+  -- a filter that was set comes from the choice of its turn
+  pub filter-of : (hash place queue : ℕ) (w : WasFiltered i run.queues place queue)
+      → filter_place i.plan.filters (Some hash) ≡ Some place
+      → (f : FilterFrom i h hash queue) × (f.choice.id ≡ w.turn.chosen.id)
+  filter-of hash place queue w here =
       let u : Turn = w.turn in
       let put = put-of rx_own run.queues run.received.queues.turns w.producer w.index u w.is in
       let at : IsPutAt run.rx.start
@@ -157,26 +159,28 @@ module _ (i : Input) (h : History) (run : IsRun i h) where
       (Some a)) w.accepted
       ((runs.rx-facts i h run).answers
       (turns_put_once rx_own run.queues (runs.rx-turns i h run)) (run.queues.seat w.producer) put.0
-      u.chosen.choice.lane u.chosen.id u.hash u.answer put.1) in
-      record {
-        queue = w.producer;
-        choice = u.chosen;
-        chosen = (
-          w.index,
-          ap (λ cs. slice_get cs w.index) (run.received.queues.choices w.producer)
-              ∙ turn-chosen rx_own run.queues run.received.queues.turns w.producer w.index u w.is,
-        );
-        moved = w.moved;
-        home = w.home;
-        accepted =
-            ap (λ (ls : List LaneList). is_in u.chosen.id
-            (lane_at ls u.chosen.choice.lane).accepted)
-            run.received.board.lanes
-            ∙ ap is_some at.1;
-        place = place;
-        there = w.there;
-        here = here;
-      }
+      u.chosen.choice.lane u.chosen.id u.hash u.answer put.1) in (
+        record {
+          queue = w.producer;
+          choice = u.chosen;
+          chosen = (
+            w.index,
+            ap (λ cs. slice_get cs w.index) (run.received.queues.choices w.producer)
+                ∙ turn-chosen rx_own run.queues run.received.queues.turns w.producer w.index u w.is,
+          );
+          moved = w.moved;
+          home = w.home;
+          accepted =
+              ap (λ (ls : List LaneList). is_in u.chosen.id
+              (lane_at ls u.chosen.choice.lane).accepted)
+              run.received.board.lanes
+              ∙ ap is_some at.1;
+          place = place;
+          there = w.there;
+          here = here;
+        },
+        refl,
+      )
 
   seen-by : (hash : Option ℕ) (a : Arrival) → IsRouted i h run.codes run.hint_seats hash a
       → SeenBy i h hash a
@@ -193,12 +197,12 @@ module _ (i : Input) (h : History) (run : IsRun i h) where
       inr (
         f.queue,
         is,
-        filter-from hash place f.queue
+        (filter-of hash place f.queue
             (run.meant.filters place f (class-below i.plan.filters (Some hash) place here) queue_few
             cpu_few
             (loaded-stored run.hint_seats (run.codes.filter place) (run.codes.filter_value f)
             stored loaded (run.codes.filter_is_set f)))
-            here,
+            here).0,
       )
 
   pub queues-are-seen : QueuesAreSeen i h
