@@ -1,6 +1,7 @@
 pub mod ChoiceLemmas
 pub mod DeltaLemmas
 pub mod DrainLemmas
+pub mod KeptLemmas
 pub mod StopLemmas
 pub mod PollerLemmas
 pub mod PutLemmas

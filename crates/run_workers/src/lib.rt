@@ -6,6 +6,7 @@ mod drain;
 mod finish;
 mod hand_laws;
 mod holding;
+mod kept_maps;
 mod laws;
 mod poller;
 mod record_laws;
@@ -21,6 +22,7 @@ pub use hand_laws::{
     turns_go_on,
 };
 pub use holding::hold;
+pub use kept_maps::KeptMaps;
 pub use laws::{arrivals_become_known, free_workers_rest, loaded_counts_hold, workers_begin};
 pub use poller::{Poller, Reading};
 pub use record_laws::{

@@ -23,13 +23,13 @@ ghost use Rattle.run_workers.specs.Hands.Servers.{Writes};
 ghost use Rattle.run_workers.specs.Hands.Servers as servers;
 
 use crate::holding::hold;
+use crate::kept_maps::KeptMaps;
 use board_api::{Board, BoardSeat, EnterAnswer, Hold, LaneId};
 use dev_flow_table::DevTable;
 use hint_words::HintSeat;
 use history::{Arrival, Sent, SockWrite};
 use run_words::{
-    HintWord, ReceiveSetting, Shared, TransmitSetting, cpus_in, place_in, place_word, queues_in,
-    socket_size_in,
+    HintWord, ReceiveSetting, Shared, TransmitSetting, place_in, place_word, socket_size_in,
 };
 use std::alloc::Global;
 use std::sync::Wait;
@@ -37,7 +37,6 @@ use steer_base::{
     AppId, Choice, Chosen, Cpu, CpuMask, Journal, OutOfMemory, PacketId, Put, RxQueue, TxQueue,
     number_at, place_of_hash,
 };
-use xps_map::XpsMaps;
 
 /// An application.
 #[derive(Drop)]
@@ -58,6 +57,9 @@ pub struct Server {
     pub choices: Journal<Chosen>,
     /// The writes to the socket flow table.
     pub writes: Journal<SockWrite>,
+    /// The maps of the transmit queues as they were read for the last reply. Before the first reply
+    /// they are of one queue.
+    pub kept: KeptMaps,
 }
 
 // The processor on which an application runs: that of its word, or its home.
@@ -107,6 +109,7 @@ impl Server {
             sent: Journal::make(alloc, room)?,
             choices: Journal::make(alloc, room)?,
             writes: Journal::make(alloc, room)?,
+            kept: KeptMaps::make(1, 1, 1),
         })
     }
 
@@ -387,11 +390,12 @@ impl Server {
           table = self.new.table;
           sent = self.new.sent;
           choices = self.new.choices;
+          kept = self.new.kept;
         } }
     {
         let Sent { id, rxq, cpu } = sent;
-        let maps = read_maps(board, shared, seat);
-        let pick = maps.pick(rxq, cpu, shared.given.hash_of(id));
+        read_maps(board, shared, seat, &mut self.kept);
+        let pick = self.kept.pick(rxq, cpu, shared.given.hash_of(id));
         let class = shared.given.flow_of(id);
         let choice = self.choose(board, seat, class, pick.0, shared.given.txs());
         self.put(rt, board, shared, seat, Chosen { id, choice });
@@ -440,19 +444,18 @@ fn late_queue(late: &[Arrival], id: PacketId) -> Option<RxQueue>
 }
 
 // Reads the maps of all transmit queues, in a visit.
-fn read_maps<B: Board>(board: &B, shared: &Shared, seat: &mut BoardSeat) -> XpsMaps
+fn read_maps<B: Board>(board: &B, shared: &Shared, seat: &mut BoardSeat, kept: &mut KeptMaps)
     requires table { seat.old.table ≡ (B.view board.now).table }
     requires inside { IsInside seat.old.steps }
     requires settings { HasTransmitSettings (B.view board.now).sizes shared.now.given }
-    ensures { MapsRead shared.now.given shared.now.given.txs result seat.old seat.new }
+    ensures { MapsRead shared.now.given shared.now.given.txs kept.new.maps seat.old seat.new }
 {
     shared.given.ranges();
     let count = shared.given.txs();
-    let mut maps = XpsMaps::make(count);
+    kept.fit(shared.given.cpus(), shared.given.queues(), count);
     for tx in 0..count {
-        read_map(board, shared, seat, &mut maps, TxQueue(tx));
+        read_map(board, shared, seat, kept, TxQueue(tx));
     }
-    maps
 }
 
 // Reads the maps of a transmit queue, in a visit.
@@ -460,19 +463,22 @@ fn read_map<B: Board>(
     board: &B,
     shared: &Shared,
     seat: &mut BoardSeat,
-    maps: &mut XpsMaps,
+    kept: &mut KeptMaps,
     tx: TxQueue,
 )
     requires table { seat.old.table ≡ (B.view board.now).table }
     requires inside { IsInside seat.old.steps }
     requires settings { HasTransmitSettings (B.view board.now).sizes shared.now.given }
-    requires count { maps.old.count ≡ shared.now.given.txs }
+    requires cpus { kept.old.cpus ≡ shared.now.given.cpus }
+    requires queues { kept.old.queues ≡ length shared.now.given.homes }
+    requires count { kept.old.maps.count ≡ shared.now.given.txs }
     requires tx { tx < shared.now.given.txs }
-    ensures { ReadsMap shared.now.given tx maps.old maps.new seat.old seat.new }
+    ensures reads { ReadsMap shared.now.given tx kept.old.maps kept.new.maps seat.old seat.new }
+    ensures cpus { kept.new.cpus ≡ kept.old.cpus }
+    ensures queues { kept.new.queues ≡ kept.old.queues }
 {
     let count = shared.given.txs();
     let cpus = board.setting(seat, TransmitSetting::Cpus(tx).number(count));
     let queues = board.setting(seat, TransmitSetting::Queues(tx).number(count));
-    maps.set_cpus(tx, cpus_in(cpus, shared.given.cpus()));
-    maps.set_queues(tx, queues_in(queues, shared.given.queues()));
+    kept.keep(tx, cpus, queues);
 }

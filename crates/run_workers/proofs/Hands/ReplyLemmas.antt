@@ -3,7 +3,7 @@ use Rattle.std.proofs.Common.{◌≡◌, ◌≢◌, ◌⊎◌, inl, inr, ℕ, �
 use Rattle.std.proofs.Common.{List, [], ◌∷◌, ◌++◌, Option, None, Some, refl, sym, ap}
 use Rattle.std.proofs.Common.{subst, ◌∙◌, length, length-append, unwrap_or}
 use Rattle.std.proofs.lemmas.Bool.Decides.{eqb_tells}
-use Rattle.std.proofs.lemmas.List.{get_or-set_same, get_or-set_other, length-replicate, length-set}
+use Rattle.std.proofs.lemmas.List.{get_or-set_same, get_or-set_other, length-set}
 use Rattle.std.proofs.lemmas.List.Elements.{Contains-append_left, Contains-append_right}
 use Rattle.std.proofs.lemmas.List.Elements.{Contains-push}
 use Rattle.steer_base.specs.declared.choice.Choice.{Choice}
@@ -11,7 +11,7 @@ use Rattle.steer_base.specs.declared.cpu_mask.CpuMask.{CpuMask}
 use Rattle.steer_base.specs.declared.put.Put.{Put}
 use Rattle.dev_flow_table.specs.Folds.{table_after}
 use Rattle.dev_flow_table.specs.Tables.{Table}
-use Rattle.xps_map.specs.Maps.{Maps, empty_maps, no_cpus}
+use Rattle.xps_map.specs.Maps.{Maps, no_cpus}
 use Rattle.hop_rule.specs.declared.step.BoardStep.{BoardStep}
 use Rattle.hop_rule.specs.declared.step.BoardStep.TheVariants.{Gate}
 use Rattle.hop_rule.specs.declared.step.GateStep.TheVariants.{Entered, Left, Read}
@@ -31,10 +31,11 @@ use Rattle.dev_flow_table.specs.Tables.{IsClassOf, weighed}
 use Rattle.xps_map.specs.Maps.{picked}
 use Rattle.steer_model.specs.State.Setup.{Setup, flow_number_of, packet_hash}
 use Rattle.run_words.specs.Values.{cpus_in, queues_in}
+use Rattle.run_workers.specs.Hands.KeptMaps.{Kept, with_map}
 use Rattle.run_workers.specs.Hands.Pollers.{HasLanesBelow, put_of}
 use Rattle.run_workers.specs.Hands.Servers.{ChoosesLane, IsServer, MapRead, MapsRead, PutsReply}
 use Rattle.run_workers.specs.Hands.Servers.{ReadsMap}
-use Rattle.run_workers.specs.Hands.Servers.{Replies, Sends, Stands, in_hand, with_map}
+use Rattle.run_workers.specs.Hands.Servers.{Replies, Sends, Stands, in_hand}
 use Rattle.run_workers.specs.declared.server.Server.{Server}
 use Rattle.run_workers.proofs.Hands.ChoiceLemmas.{class_stays, told_below}
 use Rattle.run_workers.proofs.Hands.DeltaLemmas.{adds_both, holds_both, leaves_both, quiet_both}
@@ -43,7 +44,7 @@ use Rattle.run_workers.proofs.Hands.PutLemmas.{PutMade}
 use Rattle.run_workers.proofs.Hands.ServerLemmas.{quiet_place}
 use Rattle.run_workers.proofs.Hands.VisitLemmas.{AreIdle, HeadSteps, head_steps, idle_both}
 use Rattle.run_workers.proofs.Hands.VisitLemmas.{idle_entered}
-use Rattle.run_workers.proofs.Hands.VisitLemmas.{idle_left, idle_none, loads_if}
+use Rattle.run_workers.proofs.Hands.VisitLemmas.{idle_left, loads_if}
 
 -- ---- the put
 
@@ -73,21 +74,6 @@ idle_map a b v w =
     }
 
 module _ (given : Setup) (old : BoardSeatView) where
-  -- before the first is read
-  pub maps_none : (maps : Maps) → maps ≡ empty_maps given.txs → MapsRead given 0 maps old old
-  maps_none maps are =
-      record {
-        added = [];
-        adds = refl;
-        quiet = record { puts = refl; visits = refl };
-        holds = idle_none.holds;
-        leaves = idle_none.leaves;
-        reads = λ tx low. absurd (omega (arith, low));
-        count = ap (λ (m : Maps). m.count) are;
-        cpu_sets = ap (λ (m : Maps). length m.cpus) are ∙ length-replicate given.txs no_cpus;
-        queue_sets = ap (λ (m : Maps). length m.queues) are ∙ length-replicate given.txs 0;
-      }
-
   module _ (n : ℕ) (maps : Maps) (mid new : BoardSeatView) (low : n < given.txs)
       (m : MapsRead given n maps old mid) (cpu_word queue_word : ℕ)
       (adds : Adds (Gate (Read (given.txs + n) queue_word) ∷ Gate (Read n cpu_word) ∷ []) mid new)
@@ -236,6 +222,23 @@ replied_is given s id a b class answer sent chosen is hand inside below rows tol
           (is.classes x low);
       lanes = subst (HasLanesBelow given.txs) (sym told)
           (told_below given.txs a class answer inside below);
+    }
+
+-- an application that keeps other maps
+pub keeps_maps : (given : Setup) (s : Server) (kept : Kept) → IsServer given s
+    → IsServer given (record s { kept = kept })
+keeps_maps given s kept is =
+    record {
+      app = is.app;
+      few = is.few;
+      choice_room = is.choice_room;
+      write_room = is.write_room;
+      hand = is.hand;
+      room = is.room;
+      choices = is.choices;
+      writes = is.writes;
+      classes = is.classes;
+      lanes = is.lanes;
     }
 
 -- a is the application after the choice, and p after the put

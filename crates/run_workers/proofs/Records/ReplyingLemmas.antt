@@ -443,6 +443,7 @@ module _ (given : Setup) (rows start : ℕ) (arrivals late : List Arrival) (s t 
       table = t.table;
       sent = grown s.sent sent;
       choices = grown s.choices turn.chosen;
+      kept = t.kept;
     }) (step_by s.app turn ∷ turns) noted rx hint_new.steps
     keeps_more =
         record {
@@ -485,6 +486,7 @@ module _ (given : Setup) (rows start : ℕ) (arrivals late : List Arrival) (s t 
                 table = t.table;
                 sent = replied.notes_sent i;
                 choices = replied.notes_choice i;
+                kept = t.kept;
               })))
               keeps_more;
         }

@@ -3,7 +3,7 @@
 -- of the transmit queues (section XPS).
 use Rattle.std.specs.Prelude.{◌≡◌, ◌≢◌, ◌⊎◌, ℕ, ◌+◌, ◌*◌, ◌<◌, ◌≤◌, ◌==◌, Bool, true, false}
 use Rattle.std.specs.Prelude.{List, [], ◌∷◌, Option, None, Some, IfSome, IsSome, length, unwrap_or}
-use Rattle.std.specs.Prelude.{slice_get, slice_index, slice_index_or, slice_set, if◌then◌else◌}
+use Rattle.std.specs.Prelude.{slice_get, slice_index, slice_index_or, if◌then◌else◌}
 use Rattle.std.specs.List.{Contains}
 use Rattle.std.specs.Option.{is_some}
 use Rattle.steer_base.specs.Choices.{class_of, looks_at_head, migrate}
@@ -37,6 +37,7 @@ use Rattle.run_words.specs.Values.{cpus_in, place_in, place_word, queues_in, soc
 use Rattle.run_words.specs.declared.hint_word.HintWord.TheVariants as word
 use Rattle.run_words.specs.declared.hint_word.TheConstants.{STAND_WORDS}
 use Rattle.run_workers.specs.Hands.Deltas.{HoldsNoMore, LeavesLane, OnlyServes, Serves, no_lane}
+use Rattle.run_workers.specs.Hands.KeptMaps.{with_map}
 use Rattle.run_workers.specs.Hands.Pollers.{HasLanesBelow, LoadedHead, LoadsHead, as_told, put_of}
 use Rattle.run_workers.specs.declared.server.Server.{Server}
 
@@ -205,14 +206,6 @@ pub record HasTransmitSettings (about : BoardSizes) (given : Setup) : Type 0 whe
   pub settings : length about.settings ≡ 2 * given.txs
   pub lanes : about.lanes ≡ given.txs
 
--- the maps with what the two words of a transmit queue say
-abbrev pub with_map : (cpus queues : ℕ) → Maps → (tx cpu_word queue_word : ℕ) → Maps
-with_map cpus queues maps tx cpu_word queue_word = record {
-  count = maps.count;
-  cpus = slice_set maps.cpus tx (cpus_in cpu_word cpus);
-  queues = slice_set maps.queues tx (queues_in queue_word queues);
-}
-
 -- The two words of a transmit queue were read, and its maps set by them.
 abbrev pub ReadsMap : Setup → ℕ → Maps → Maps → BoardSeatView → BoardSeatView → Type 0
 ReadsMap given tx before after old new =
@@ -320,7 +313,13 @@ pub record RepliesToHand (given : Setup) (late : List Arrival) (s t : Server)
   pub replies : Replies given s.app s.home sent s.table t.table turn old new hint_mid hint_new
   pub notes_sent : t.sent ≡ grown s.sent sent
   pub notes_choice : t.choices ≡ grown s.choices turn.chosen
-  pub same : t ≡ record s { hand = None; table = t.table; sent = t.sent; choices = t.choices }
+  pub same : t ≡ record s {
+    hand = None;
+    table = t.table;
+    sent = t.sent;
+    choices = t.choices;
+    kept = t.kept;
+  }
 
 -- what an application did, by whether it replied
 abbrev pub RepliesOrKeeps : Setup → List Arrival → Server → Server → BoardSeatView
