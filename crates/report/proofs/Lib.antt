@@ -1,12 +1,12 @@
 pub mod CommandSpelling
 pub mod Cuts
+pub mod DecimalLemmas
 pub mod Digits
 pub mod KnownRows
 pub mod NeededPremises
 pub mod NumbersLemmas
 pub mod OneHistory
 pub mod OneReply
-pub mod PairsLemmas
 pub mod PiecesLemmas
 pub mod ReportRows
 pub mod RoomLemmas

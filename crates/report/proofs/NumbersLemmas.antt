@@ -1,7 +1,8 @@
 -- Hexadecimal digits, one after another, and by way of the halves of bytes.
 use Rattle.std.proofs.Common.{◌≡◌, ◌≤◌, ◌<◌, ℕ, zero, suc, ◌+◌, ◌-◌, ◌*◌, ◌/◌, ◌%◌, ◌^◌, List, []}
 use Rattle.std.proofs.Common.{◌∷◌, ◌++◌, ◌∙◌, length, arith, refl, ap, drop, sym, take, get_or, map}
-use Rattle.std.proofs.Common.{reverse, bit_and, w8}
+use Rattle.std.proofs.Common.{reverse, bit_and, w8, true, eqb}
+use Rattle.std.proofs.lemmas.Bool.{agree_below, agree_below_at, eqb-true}
 use Rattle.std.proofs.lemmas.List.{take_rest, get_or-map, ext_get_or, length-map, map-append}
 use Rattle.std.proofs.lemmas.List.{reverse-append}
 use Rattle.std.proofs.lemmas.Nat.{shr-shr, and_mask}
@@ -9,7 +10,6 @@ use Rattle.std.proofs.lemmas.Simd.{swz_l, length-swz_l, get_or-swz_l_below, Each
 use lib.Lanes.{Each1, digits_l}
 use Rattle.report.specs.Numbers.{hex_digit, hex_digits}
 use Rattle.report.specs.declared.numbers.TheConstants.{DIGITS}
-use Rattle.report.proofs.PairsLemmas.{held}
 
 pub length-hex_digits : (k n : ℕ) → length (hex_digits k n) ≡ k
 unfolding hex_digits
@@ -58,6 +58,13 @@ halves-digits (suc k) n =
     let up : n / 256 ≡ n / 16 / 16 = omega arith in
     let rest = halves-digits k (n / 256) ∙ ap (digits_l 16 (2 * k)) up in
     rw two (λ i. low i ∷ high i ∷ rest i)
+
+-- what a table holds for each number below n, where it was compared for all of them
+held : (table : List ℕ) (place value : ℕ → ℕ) (n p : ℕ) → agree_below
+    (λ q. eqb (get_or table (place q) 0) (value q)) (λ q. true) n ≡ true → p < n
+    → get_or table (place p) 0 ≡ value p
+held table place value n p all small = eqb-true _ _ (agree_below_at (λ q. eqb
+    (get_or table (place q) 0) (value q)) (λ q. true) n p all small)
 
 -- a digit in either block of the table
 digit_at : (block d : ℕ) → block < 2 → d < 16 → get_or DIGITS (16 * block + d) 0 ≡ hex_digit d

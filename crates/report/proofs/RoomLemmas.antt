@@ -1,8 +1,8 @@
 -- A text behind the first bytes of a room.
-use Rattle.std.proofs.Common.{ℕ, ◌≤◌, ◌≡◌, ◌+◌, ◌-◌, List, [], ◌∷◌, ◌++◌, ◌∙◌, ap, arith, drop}
-use Rattle.std.proofs.Common.{append_assoc, drop_at, length, length-take-le, set, sym, take}
+use Rattle.std.proofs.Common.{ℕ, ◌≤◌, ◌≡◌, ◌+◌, ◌-◌, List, ◌++◌, ◌∙◌, ap, arith, drop}
+use Rattle.std.proofs.Common.{append_assoc, drop_at, length, length-take-le, sym, take}
 use Rattle.std.proofs.Common.{take_all, take_at, take-add, take-append-drop, take-take}
-use Rattle.std.proofs.lemmas.List.{length-drop, length-set, take_more_set}
+use Rattle.std.proofs.lemmas.List.{length-drop}
 
 -- the first bytes, up to some of a text behind them
 take-behind : (at n : ℕ) (a text : List ℕ) → at ≤ length a → take (at + n) (take at a ++ text)
@@ -31,13 +31,3 @@ ends-placed a b c text at half within fits covers first second =
     ∙ append_assoc (take at a) (take last text) (take half (drop last text))
     ∙ ap (λ r. take at a ++ (take last text ++ r)) rest
     ∙ ap (λ r. take at a ++ r) (take-append-drop last text)
-
--- two bytes, one behind the other
-pub pair-placed : (room : List ℕ) (at a b : ℕ) → at + 2 ≤ length room
-    → take (at + 2) (set (set room at a) (at + 1) b) ≡ take at room ++ a ∷ b ∷ []
-pair-placed room at a b within =
-    let two : at + 2 ≡ at + 1 + 1 = omega arith in
-    let second = take_more_set (set room at a) (at + 1) b
-    (omega (arith, within, length-set room at a)) in
-    rw two second ∙ ap (λ r. r ++ b ∷ []) (take_more_set room at a (omega (arith, within)))
-    ∙ append_assoc (take at room) (a ∷ []) (b ∷ [])

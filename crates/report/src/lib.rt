@@ -2,7 +2,6 @@
 #![tactic(auto)]
 
 mod commands;
-mod decimal;
 mod fields;
 mod fits;
 mod laws;

@@ -6,10 +6,9 @@ ghost use Rattle.outside_io.specs.Counts.{Rose};
 ghost use Rattle.outside_io.specs.Sink.{AppendsSome};
 ghost use Rattle.report.specs.Numbers.{hex_digits};
 
-use crate::decimal::place_decimal;
 use crate::numbers::hex32;
 use crate::place::place;
-use itoa::Buffer;
+use itoa::write_digits;
 use outside_io::{Sink, WriteFault, write_whole};
 use std::alloc::Global;
 use std::marker::Model;
@@ -80,29 +79,16 @@ impl LineBuf {
         }
     }
 
-    // Appends the decimal digits of a number of any length.
+    // Appends the decimal digits of a number from 1 on, each at its place.
     fn push_digits(&mut self, number: u64)
-        requires { length self.old + 20 ≤ 512 }
+        requires positive { 0 < number }
+        requires room { length self.old + 20 ≤ 512 }
         ensures value { self.new ≡ self.old ++ decimal number }
         ensures grows { length self.new ≤ length self.old + 20 }
     {
-        if number < 100_000_000 {
-            self.length = place_decimal(&mut self.room, self.length, number);
-        } else {
-            self.push_long(number);
-        }
-    }
-
-    // Appends the decimal digits of any number, by way of a buffer.
-    #[inline(never)]
-    fn push_long(&mut self, number: u64)
-        requires { length self.old + 20 ≤ 512 }
-        ensures value { self.new ≡ self.old ++ decimal number }
-        ensures grows { length self.new ≤ length self.old + 20 }
-    {
-        let mut buffer = Buffer::new();
-        let digits = buffer.format(number).as_bytes();
-        self.push(digits);
+        let end = self.length + number.ilog10() as usize + 1;
+        write_digits(number, &mut self.room, end);
+        self.length = end;
     }
 
     /// Appends the lowest `digits` hexadecimal digits of a number to the line, the most significant
