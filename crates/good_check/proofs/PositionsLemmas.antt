@@ -1,9 +1,11 @@
 -- The position of a packet at the lane of a choice, by what is known of the packet.
 use Rattle.std.proofs.Common.{ℕ, ◌≡◌, ◌<◌, ◌≤◌, true, List, Option, Some, None}
-use Rattle.std.proofs.Common.{length, refl, ap, ◌∙◌, sym, arith, inl, inr, get_or}
+use Rattle.std.proofs.Common.{length, refl, ap, ◌∙◌, sym, arith, inl, inr, get_or, ◌+◌, ◌++◌}
+use Rattle.std.proofs.Common.{◌∷◌, []}
 use Rattle.std.specs.Option.{is_some, option_and_then, option_map}
 use Rattle.std.proofs.Math.ListN.{get_or-eq_default}
 use Rattle.std.proofs.lemmas.Bool.{cases_Bool, cases_eq, cases_lt, eq-eqb, ne_eqb}
+use Rattle.std.proofs.lemmas.List.{get_or_append_left, get_or_push}
 use Rattle.steer_base.specs.Counters.{number}
 use Rattle.steer_base.specs.Entries.{place_in}
 use Rattle.steer_base.specs.declared.choice.Choice.{Choice}
@@ -20,7 +22,45 @@ use Rattle.history.proofs.OwnLemmas.{own-first}
 use Rattle.history.proofs.RegularLemmas.{arrived-accepted, lane-accepted}
 use Rattle.history.proofs.SamePlaces.{no_place, some_same}
 use Rattle.good_check.specs.Choices.{rx_position}
-use Rattle.good_check.specs.Positions.{position_by}
+use Rattle.good_check.specs.Positions.{AreLanesOf, lane_of, position_by, position_in}
+
+-- by the lane of the own choice alone
+pub by-lane : (start : ℕ) (own : Option ℕ) (choice : Option Choice) (place : Option ℕ) (lane : ℕ)
+    → own ≡ lane_of choice → position_in start own place lane ≡ position_by start choice place lane
+by-lane start own choice place lane e =
+    ap (λ o. position_in start o place lane) e ∙ same choice
+  where
+    same : (c : Option Choice)
+        → position_in start (lane_of c) place lane ≡ position_by start c place lane
+    same None = refl
+    same (Some c) = refl
+
+-- the lane of one packet more
+pub lanes-more : (choices : List (Option Choice)) (lanes new : List (Option ℕ)) (x : ℕ)
+    (v : Option ℕ) → new ≡ lanes ++ v ∷ [] → length lanes ≡ x → v ≡ lane_of (get_or choices x None)
+    → ((y : ℕ) → y < x → get_or lanes y None ≡ lane_of (get_or choices y None))
+    → (y : ℕ) → y < x + 1 → get_or new y None ≡ lane_of (get_or choices y None)
+lanes-more choices lanes new x v e m is before y l = elim (cases_lt y x) [
+  | inl b ↦
+      ap (λ xs. get_or xs y None) e
+      ∙ get_or_append_left lanes (v ∷ []) None y (omega (arith, b, m)) ∙ before y b
+  | inr b ↦
+      let same : x ≡ y = omega (arith, b, l) in
+      ap (λ xs. get_or xs y None) e ∙ get_or_push lanes v None y (omega (arith, b, l, m))
+      ∙ is ∙ ap (λ n. lane_of (get_or choices n None)) same
+]
+
+-- the lanes of all packets
+pub lanes-all : (choices : List (Option Choice)) (lanes : List (Option ℕ)) (count : ℕ)
+    → length choices ≤ count → length lanes ≡ count
+    → ((y : ℕ) → y < count → get_or lanes y None ≡ lane_of (get_or choices y None))
+    → AreLanesOf choices lanes
+lanes-all choices lanes count l m each x = elim (cases_lt x count) [
+  | inl b ↦ each x b
+  | inr b ↦
+      get_or-eq_default lanes None (omega (arith, b, m))
+      ∙ sym (ap lane_of (get_or-eq_default choices None (omega (arith, b, l))))
+]
 
 pub nowhere : (x : ℕ) (xs : List ℕ) → (is_in x xs ≡ true → ⊥) → place_in x xs ≡ None
 nowhere x xs h = elim (cases_Bool (is_in x xs)) [

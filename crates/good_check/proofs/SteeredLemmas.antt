@@ -150,7 +150,8 @@ module _ (arrivals : List Arrival)
 
 module _ (i : Input) (h : History) (flows : AreOfFlows i.packets)
     (regular : Regular i.packets (length i.plan.apps) h)
-    (known : Known) (is : IsKnown h known) where
+    (known : Known) (is : IsKnown h known)
+    (size : ℕ) (above : (x : ℕ) → flow_number_of (setup_in i) x < size) where
   abbrev count : ℕ
   count = length i.packets
 
@@ -161,13 +162,13 @@ module _ (i : Input) (h : History) (flows : AreOfFlows i.packets)
   queue x = (arrival_of h.arrivals x).queue
 
   abbrev class : ℕ → ℕ → ℕ
-  class q x = queue_and_flow count q (flow x)
+  class q x = queue_and_flow size q (flow x)
 
   abbrev drops : List (List LaneDrop)
   drops = map (λ lane. lane.drops) h.lanes
 
   abbrev classes : List (Option ℕ)
-  classes = arrival_classes (setup_in i) h.arrivals
+  classes = arrival_classes size (setup_in i) h.arrivals
 
   abbrev came : List ℕ
   came = kept_arrivals known h.arrivals
@@ -177,9 +178,9 @@ module _ (i : Input) (h : History) (flows : AreOfFlows i.packets)
 
   slot-is : (y : ℕ) → y < length h.arrivals → get_or classes y None ≡ Some (class (queue y) y)
   slot-is y l =
-      get_or-map (λ (a : Arrival). Some (queue_and_flow count a.queue (flow a.id))) h.arrivals y
+      get_or-map (λ (a : Arrival). Some (queue_and_flow size a.queue (flow a.id))) h.arrivals y
       no_arrival None l
-      ∙ ap (λ (a : Arrival). Some (queue_and_flow count a.queue (flow a.id)))
+      ∙ ap (λ (a : Arrival). Some (queue_and_flow size a.queue (flow a.id)))
       (sym (arrival-at y h.arrivals regular.arrived.numbered l))
       ∙ ap (λ z. Some (class (queue y) z))
       (ap (λ (a : Arrival). a.id) (arrival-at y h.arrivals regular.arrived.numbered l)
@@ -190,8 +191,7 @@ module _ (i : Input) (h : History) (flows : AreOfFlows i.packets)
       → is_in_class classes (class q x) y ≡ of_flow i h q x y
   test-is q x y l m =
       ap (is_class (class q x)) (slot-is y m)
-      ∙ class-test count q (flow x) (queue y) (flow y) (flows.below x l)
-      (flows.below y (of-capture y m))
+      ∙ class-test size q (flow x) (queue y) (flow y) (above x) (above y)
       ∙ ap (λ b. b && (flow y == flow x))
       (sym (in-queue h.arrivals regular.arrived.numbered q y m))
 
@@ -310,5 +310,5 @@ module _ (i : Input) (h : History) (flows : AreOfFlows i.packets)
       omega (
         arith,
         arrived y j,
-        length-map h.arrivals (λ a. Some (queue_and_flow count a.queue (flow a.id))),
+        length-map h.arrivals (λ a. Some (queue_and_flow size a.queue (flow a.id))),
       ))

@@ -1,5 +1,5 @@
 -- The packets that came and those that left, class by class.
-use Rattle.std.specs.Prelude.{ℕ, ◌*◌, ◌+◌, Bool, List, Option, Some, None, filter, is_some, length}
+use Rattle.std.specs.Prelude.{ℕ, ◌*◌, ◌+◌, Bool, List, Option, Some, None, filter, is_some}
 use Rattle.std.specs.Prelude.{map, not, slice_index_or}
 use Rattle.std.specs.List.{concat}
 use Rattle.steer_base.specs.Orders.{IsPrefix}
@@ -18,10 +18,11 @@ LeftInOrder classes came left =
 abbrev pub queue_and_flow : (flows queue flow : ℕ) → ℕ
 queue_and_flow flows queue flow = queue * flows + flow
 
--- the class of each packet that arrived, by its receive queue and its flow
-abbrev pub arrival_classes : Setup → List Arrival → List (Option ℕ)
-arrival_classes p arrivals =
-    map (λ a. Some (queue_and_flow (length p.packets) a.queue (flow_number_of p a.id))) arrivals
+-- the class of each packet that arrived, by its receive queue and its flow, where there are so many
+-- flow numbers
+abbrev pub arrival_classes : (flows : ℕ) → Setup → List Arrival → List (Option ℕ)
+arrival_classes flows p arrivals =
+    map (λ a. Some (queue_and_flow flows a.queue (flow_number_of p a.id))) arrivals
 
 -- the class of each packet that arrived, by its flow alone
 abbrev pub reply_classes : Setup → List Arrival → List (Option ℕ)

@@ -30,8 +30,10 @@ fn all_replies(alloc: Global, sent: &List<List<Sent>>) -> Result<Vec<PacketId>, 
 }
 
 impl Case<'_> {
-    ghost use Rattle.std.specs.Prelude.{◌≡◌, IfOk, true};
+    ghost use Rattle.std.specs.Prelude.{ℕ, ◌≡◌, ◌<◌, ◌≤◌, IfOk, true};
+    ghost use Rattle.dev_flow_table.specs.declared.table.TheConstants.{MAX_EXACT_CLASSES};
     ghost use Rattle.steer_model.specs.Good.Replies.{LeaveInOrder};
+    ghost use Rattle.steer_model.specs.State.Setup.{flow_number_of};
     ghost use Rattle.good_check.specs.Cases.{IsPlain, input_of};
     ghost use Rattle.good_check.specs.Order.{LeftInOrder, all_replies, reply_classes};
     ghost use Rattle.good_check.specs.Order.{kept_arrivals, arrival_classes};
@@ -65,17 +67,19 @@ impl Case<'_> {
 
     // Whether the packets of each flow from each receive queue leave in the order of their
     // arrivals.
-    fn arrivals_leave(&self, alloc: Global) -> Result<bool, OutOfMemory>
+    fn arrivals_leave(&self, alloc: Global, flows: u32) -> Result<bool, OutOfMemory>
         requires plain { IsPlain self.now }
+        requires above { (x : ℕ) → flow_number_of self.now.given.now x < flows }
+        requires few { flows ≤ MAX_EXACT_CLASSES }
         ensures yes { IfOk result (λ r. r ≡ true
-            → LeftInOrder (arrival_classes self.now.given.now self.now.h.now.arrivals)
+            → LeftInOrder (arrival_classes flows self.now.given.now self.now.h.now.arrivals)
             (kept_arrivals self.now.known.now self.now.h.now.arrivals) self.now.h.now.port) }
         ensures no { IfOk result (λ r.
-            LeftInOrder (arrival_classes self.now.given.now self.now.h.now.arrivals)
+            LeftInOrder (arrival_classes flows self.now.given.now self.now.h.now.arrivals)
             (kept_arrivals self.now.known.now self.now.h.now.arrivals) self.now.h.now.port
             → r ≡ true) }
     {
-        let classes = self.arrival_classes(alloc)?;
+        let classes = self.arrival_classes(alloc, flows)?;
         let came = self.kept_arrivals(alloc)?;
         leave_in_order(alloc, &classes, &came, self.h.port.as_slice())
     }
@@ -97,6 +101,6 @@ impl Case<'_> {
         if !self.replies_leave(alloc)? {
             return Ok(false);
         }
-        self.arrivals_leave(alloc)
+        self.arrivals_leave(alloc, self.flow_classes())
     }
 }

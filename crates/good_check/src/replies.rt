@@ -3,11 +3,11 @@ ghost use Rattle.std.specs.Prelude.{◌≡◌, ◌<◌, None, length, slice_inde
 ghost use Rattle.std.specs.List.{list_all};
 ghost use Rattle.steer_base.specs.declared.choice.Chosen.{Chosen as AChosen};
 ghost use Rattle.history.specs.Lists.{no_arrival};
-ghost use Rattle.good_check.specs.Positions.{position_by};
+ghost use Rattle.good_check.specs.Positions.{position_in};
 ghost use Rattle.good_check.specs.Replies.{is_from, reply_pick, tx_position};
 
 use crate::case::Case;
-use crate::positions::position_by;
+use crate::positions::{lane_at, own_lanes, position_in};
 use dev_flow_table::DevTable;
 use history::{History, Known, Sent};
 use rule_check::{Producer, Question, are_by_rule};
@@ -25,10 +25,11 @@ pub(crate) struct Sender<'a> {
     settings: &'a InForce,
     h: &'a History,
     known: &'a Known,
+    lanes: &'a [Option<u8>],
     a: u8,
     ghost has_stand: { a < length settings.now.stands },
-    ghost are_known: { (c : AChosen) → position_by h.now.start
-        (slice_index_or known.now.tx_choices c.id None)
+    ghost are_known: { (c : AChosen) → position_in h.now.start
+        (slice_index_or lanes.now c.id None)
         (slice_index_or known.now.tx_accepted c.id None) c.choice.lane ≡ tx_position h.now c },
 }
 
@@ -65,9 +66,9 @@ impl<'a> Producer for Sender<'a> {
             class: Some(self.given.flow_of(chosen.id)),
             want: Some(pick),
             desired: pick,
-            position: position_by(
+            position: position_in(
                 self.h.start,
-                self.known.tx_choices.get(chosen.id),
+                lane_at(self.lanes, chosen.id),
                 self.known.tx_accepted.get(chosen.id),
                 chosen.choice.lane,
             ),
@@ -94,10 +95,11 @@ impl Case<'_> {
     ghost use Rattle.steer_model.specs.Good.Replies.{RepliesAreByRule};
     ghost use Rattle.steer_model.specs.State.Setup.{flow_number_of};
     ghost use Rattle.good_check.specs.Cases.{IsPlain, input_of};
+    ghost use Rattle.good_check.specs.Positions.{AreLanesOf};
     ghost use Rattle.good_check.specs.Replies.{HasReplied};
 
     // One more than the greatest flow number of a packet. A packet beyond the capture has 0.
-    fn flow_classes(&self) -> u32
+    pub(crate) fn flow_classes(&self) -> u32
         requires plain { IsPlain self.now }
         ensures above { (x : ℕ) → flow_number_of self.now.given.now x < result }
         ensures few { result ≤ MAX_EXACT_CLASSES }
@@ -110,8 +112,15 @@ impl Case<'_> {
     }
 
     // Whether each reply of an application keeps its processor, and each choice is by the rule.
-    fn has_replied(&self, alloc: Global, a: u8, flows: u32) -> Result<bool, OutOfMemory>
+    fn has_replied(
+        &self,
+        alloc: Global,
+        a: u8,
+        flows: u32,
+        lanes: &[Option<u8>],
+    ) -> Result<bool, OutOfMemory>
         requires plain { IsPlain self.now }
+        requires lanes { AreLanesOf self.now.known.now.tx_choices lanes.now }
         requires app { a < length self.now.plan.now.apps }
         requires above { (x : ℕ) → flow_number_of self.now.given.now x < flows }
         requires few { flows ≤ MAX_EXACT_CLASSES }
@@ -132,6 +141,7 @@ impl Case<'_> {
             settings: self.settings,
             h: self.h,
             known: self.known,
+            lanes,
             a,
         };
         Ok(are_by_rule(&mut table, choices, &sender))
@@ -148,8 +158,9 @@ impl Case<'_> {
             → HasReplied self.now.given.now self.now.settings.now self.now.h.now flows a)
             → r ≡ true) }
     {
+        let lanes = own_lanes(alloc, &self.known.tx_choices, self.given.packet_count())?;
         for a in 0..self.given.apps() {
-            if !self.has_replied(alloc, a, flows)? {
+            if !self.has_replied(alloc, a, flows, &lanes)? {
                 return Ok(false);
             }
         }

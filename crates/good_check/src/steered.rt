@@ -1,6 +1,6 @@
 //! Clause 7: each packet is at one place, and the packets of each flow are in order.
 ghost use Rattle.std.specs.Prelude.{◌≡◌, ◌<◌, ◌≤◌};
-ghost use Rattle.steer_base.specs.declared.limits.TheConstants.{MAX_PACKETS};
+ghost use Rattle.dev_flow_table.specs.declared.table.TheConstants.{MAX_EXACT_CLASSES};
 ghost use Rattle.good_check.specs.Order.{queue_and_flow};
 
 use crate::case::Case;
@@ -10,7 +10,7 @@ use steer_base::{OutOfMemory, PacketId, RxQueue};
 
 // A receive queue and a flow as one number, where there are `flows` flow numbers.
 fn queue_and_flow(flows: u32, queue: RxQueue, flow: u32) -> u32
-    requires few { flows ≤ MAX_PACKETS }
+    requires few { flows ≤ MAX_EXACT_CLASSES }
     requires below { flow < flows }
     ensures { result ≡ queue_and_flow flows queue flow }
 {
@@ -18,18 +18,24 @@ fn queue_and_flow(flows: u32, queue: RxQueue, flow: u32) -> u32
 }
 
 impl Case<'_> {
-    ghost use Rattle.std.specs.Prelude.{◌≡◌, IfOk, true};
+    ghost use Rattle.std.specs.Prelude.{ℕ, ◌≡◌, ◌<◌, ◌≤◌, IfOk, true};
+    ghost use Rattle.dev_flow_table.specs.declared.table.TheConstants.{MAX_EXACT_CLASSES};
     ghost use Rattle.steer_model.specs.Good.Deliveries.{IsDeliveredInOrder, IsSteered};
+    ghost use Rattle.steer_model.specs.State.Setup.{flow_number_of};
     ghost use Rattle.good_check.specs.Cases.{IsPlain, input_of};
     ghost use Rattle.good_check.specs.Order.{kept_arrivals, arrival_classes};
 
     // The class of each packet that arrived, by its receive queue and its flow.
-    pub(crate) fn arrival_classes(&self, alloc: Global) -> Result<Vec<Option<u32>>, OutOfMemory>
-        requires plain { IsPlain self.now }
+    pub(crate) fn arrival_classes(
+        &self,
+        alloc: Global,
+        flows: u32,
+    ) -> Result<Vec<Option<u32>>, OutOfMemory>
+        requires above { (x : ℕ) → flow_number_of self.now.given.now x < flows }
+        requires few { flows ≤ MAX_EXACT_CLASSES }
         ensures { IfOk result (λ classes.
-            classes.items ≡ arrival_classes self.now.given.now self.now.h.now.arrivals) }
+            classes.items ≡ arrival_classes flows self.now.given.now self.now.h.now.arrivals) }
     {
-        let flows = self.given.packet_count();
         let mut classes = Vec::with_capacity(alloc, self.h.arrivals.len())?;
         for arrival in self.h.arrivals.as_slice() {
             let flow = self.given.flow_of(arrival.id);
@@ -65,7 +71,7 @@ impl Case<'_> {
         ensures no { IfOk result (λ r. IsDeliveredInOrder (input_of self.now) self.now.h.now
             → r ≡ true) }
     {
-        let classes = self.arrival_classes(alloc)?;
+        let classes = self.arrival_classes(alloc, self.flow_classes())?;
         let came = self.kept_arrivals(alloc)?;
         let delivered = joined(alloc, &self.h.inboxes)?;
         leave_in_order(alloc, &classes, &came, &delivered)

@@ -4,4 +4,4 @@ use Rattle.good_check.proofs.case.Case.arrival_classes.Given as goal
 
 abbrev pub invariant-loop-arrival : goal.invariant-loop-arrival
 invariant-loop-arrival l = l.classes.items
-    ≡ arrival_classes l.self.given.now (take l.arrival-index l.self.h.now.arrivals)
+    ≡ arrival_classes l.flows l.self.given.now (take l.arrival-index l.self.h.now.arrivals)

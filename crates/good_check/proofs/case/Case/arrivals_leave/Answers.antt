@@ -17,13 +17,16 @@ leave_in_order-requires-clause-came c =
     let i = input_of case in
     let r = c.requires.plain in
     let k = case.known.now in
-    within-same c.deref.result.now (arrival_classes (setup_in i) h.arrivals) c.deref-2.result.now
+    within-same c.deref.result.now (arrival_classes c.args.flows (setup_in i) h.arrivals)
+    c.deref-2.result.now
     (kept_arrivals k h.arrivals)
     (c.deref.ensures.value ∙ c.in_ok-classes.ensures
-    ∙ ap (λ p. arrival_classes p h.arrivals) case.is_setup)
+    ∙ ap (λ p. arrival_classes c.args.flows p h.arrivals) case.is_setup)
     (c.deref-2.ensures.value ∙ c.in_ok-came.ensures)
-    (within-classes i h r.flows r.regular k case.is_known (kept_arrivals k h.arrivals)
-    (came-arrived i h r.flows r.regular k case.is_known))
+    (within-classes i h r.flows r.regular k case.is_known c.args.flows
+    c.requires.above (kept_arrivals k h.arrivals)
+    (came-arrived i h r.flows r.regular k case.is_known c.args.flows
+    c.requires.above))
 
 pub leave_in_order-requires-clause-left : goal.leave_in_order-requires-clause-left
 leave_in_order-requires-clause-left c =
@@ -32,26 +35,30 @@ leave_in_order-requires-clause-left c =
     let i = input_of case in
     let r = c.requires.plain in
     let k = case.known.now in
-    within-same c.deref.result.now (arrival_classes (setup_in i) h.arrivals) c.as_slice.result.now
+    within-same c.deref.result.now (arrival_classes c.args.flows (setup_in i) h.arrivals)
+    c.as_slice.result.now
     h.port
     (c.deref.ensures.value ∙ c.in_ok-classes.ensures
-    ∙ ap (λ p. arrival_classes p h.arrivals) case.is_setup)
+    ∙ ap (λ p. arrival_classes c.args.flows p h.arrivals) case.is_setup)
     c.as_slice.ensures
-    (within-classes i h r.flows r.regular k case.is_known h.port
-    (port-arrived i h r.flows r.regular k case.is_known))
+    (within-classes i h r.flows r.regular k case.is_known c.args.flows
+    c.requires.above h.port
+    (port-arrived i h r.flows r.regular k case.is_known c.args.flows
+    c.requires.above))
 
 pub leave_in_order-requires-clause-once : goal.leave_in_order-requires-clause-once
 leave_in_order-requires-clause-once c =
     let case = c.args.self.now in
     let r = c.requires.plain in
     subst Once (sym (c.deref-2.ensures.value ∙ c.in_ok-came.ensures))
-    (came-once (input_of case) case.h.now r.flows r.regular case.known.now case.is_known)
+    (came-once (input_of case) case.h.now r.flows r.regular case.known.now case.is_known
+    c.args.flows c.requires.above)
 
 pub returns-clause-yes : goal.returns-clause-yes
 returns-clause-yes c =
     let case = c.args.self.now in
     let h = case.h.now in
-    let cs = arrival_classes case.given.now h.arrivals in
+    let cs = arrival_classes c.args.flows case.given.now h.arrivals in
     let us = kept_arrivals case.known.now h.arrivals in
     IfOk-weaker c.leave_in_order.result
     (λ r. r ≡ true → LeftInOrder c.deref.result.now c.deref-2.result.now c.as_slice.result.now)
@@ -65,7 +72,7 @@ pub returns-clause-no : goal.returns-clause-no
 returns-clause-no c =
     let case = c.args.self.now in
     let h = case.h.now in
-    let cs = arrival_classes case.given.now h.arrivals in
+    let cs = arrival_classes c.args.flows case.given.now h.arrivals in
     let us = kept_arrivals case.known.now h.arrivals in
     IfOk-weaker c.leave_in_order.result
     (λ r. LeftInOrder c.deref.result.now c.deref-2.result.now c.as_slice.result.now → r ≡ true)

@@ -28,16 +28,19 @@ returns-clause-yes c =
     let k = case.known.now in
     let came = kept_arrivals k h.arrivals in
     IfOk-weaker c.arrivals_leave.result
-    (λ r. r ≡ true → LeftInOrder (arrival_classes case.given.now h.arrivals) came h.port)
+    (λ r. r ≡ true
+    → LeftInOrder (arrival_classes c.flow_classes.result case.given.now h.arrivals) came h.port)
     (λ r. r ≡ true → LeaveInOrder i h)
     (λ r o t. record {
       order = replies-to i h p.flows p.regular
           (subst (λ g. LeftInOrder (reply_classes g h.arrivals) (all_replies h.sent) h.port)
           case.is_setup (c.in_ok-replies_leave.ensures.yes c.if-not-branch.false));
-      end_to_end = order-to i h p.flows p.regular k case.is_known h.port
-          (port-arrived i h p.flows p.regular k case.is_known)
-          (subst (λ g. LeftInOrder (arrival_classes g h.arrivals) came h.port) case.is_setup
-          (o t));
+      end_to_end = order-to i h p.flows p.regular k case.is_known c.flow_classes.result
+          c.flow_classes.ensures.above h.port
+          (port-arrived i h p.flows p.regular k case.is_known c.flow_classes.result
+          c.flow_classes.ensures.above)
+          (subst (λ g. LeftInOrder (arrival_classes c.flow_classes.result g h.arrivals) came
+          h.port) case.is_setup (o t));
     })
     c.arrivals_leave.ensures.yes
 
@@ -50,10 +53,14 @@ returns-clause-no c =
     let k = case.known.now in
     let came = kept_arrivals k h.arrivals in
     IfOk-weaker c.arrivals_leave.result
-    (λ r. LeftInOrder (arrival_classes case.given.now h.arrivals) came h.port → r ≡ true)
+    (λ r. LeftInOrder (arrival_classes c.flow_classes.result case.given.now h.arrivals) came h.port
+    → r ≡ true)
     (λ r. LeaveInOrder i h → r ≡ true)
-    (λ r o l. o (subst (λ g. LeftInOrder (arrival_classes g h.arrivals) came h.port)
+    (λ r o l. o (subst (λ g. LeftInOrder (arrival_classes c.flow_classes.result g h.arrivals) came
+    h.port)
     (sym case.is_setup)
-    (order-from i h p.flows p.regular k case.is_known h.port
-    (port-arrived i h p.flows p.regular k case.is_known) l.end_to_end)))
+    (order-from i h p.flows p.regular k case.is_known c.flow_classes.result
+    c.flow_classes.ensures.above h.port
+    (port-arrived i h p.flows p.regular k case.is_known c.flow_classes.result
+    c.flow_classes.ensures.above) l.end_to_end)))
     c.arrivals_leave.ensures.no
