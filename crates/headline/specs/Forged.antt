@@ -12,6 +12,7 @@ use Rattle.plan_reader.specs.Ranges.{commands_of}
 use Rattle.plan_reader.specs.Settings.{IsWithin, PlanSettings}
 use Rattle.plan_reader.specs.declared.plan.Plan.{Plan}
 use Rattle.plan_reader.specs.declared.plan.Steps.TheVariants as steps
+use Rattle.steer_base.specs.Packets.{flow_shown}
 use Rattle.steer_base.specs.declared.choice.Chosen.{Chosen}
 use Rattle.steer_base.specs.declared.choice.Why.TheVariants.{Kept, Passed}
 use Rattle.steer_base.specs.declared.flow.Flow.TheVariants.{Bare}
@@ -96,7 +97,7 @@ example_settings list = settings_with 4 list
 
 -- A packet of the one flow of the examples.
 abbrev pub example_packet : Packet
-example_packet = record { flow = Bare; hash = Some 5; len = 60; flow_number = 0 }
+example_packet = record { flow = flow_shown Bare; hash = Some 5; len = 60; flow_number = 0 }
 
 -- A plan with two packets of the flow.
 abbrev pub input_with : (s : PlanSettings) → IsWithin s → Input

@@ -3,6 +3,7 @@ use Rattle.std.specs.Prelude.{ℕ, List, [], None, ◌==◌, map, slice_index_or
 use Rattle.std.specs.List.{filter}
 use Rattle.std.specs.Option.{unwrap_or}
 use Rattle.steer_base.specs.Apps.{app_of}
+use Rattle.steer_base.specs.Packets.{flow_shown}
 use Rattle.steer_base.specs.declared.flow.Flow.TheVariants.{Bare}
 use Rattle.steer_base.specs.declared.packet.Packet.{Packet}
 use Rattle.history.specs.Finding.{found}
@@ -11,7 +12,7 @@ use Rattle.history.specs.declared.lane_list.LaneList.{LaneList}
 
 -- the default for a packet beyond the capture: it has no hash
 abbrev pub no_packet : Packet
-no_packet = record { flow = Bare; hash = None; len = 0; flow_number = 0 }
+no_packet = record { flow = flow_shown Bare; hash = None; len = 0; flow_number = 0 }
 
 -- the default for the arrival of a packet that did not arrive
 abbrev pub no_arrival : Arrival

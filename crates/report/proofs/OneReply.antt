@@ -8,6 +8,7 @@ use Rattle.std.specs.Fmt.{digits}
 use Rattle.std.specs.List.{All}
 use Rattle.std.proofs.lemmas.List.Elements.{All-nil, All-cons}
 use Rattle.steer_base.specs.Arrivals.{IsRoute}
+use Rattle.steer_base.specs.Packets.{flow_shown}
 use Rattle.steer_base.specs.declared.flow.Flow.TheVariants.{Four}
 use Rattle.steer_base.specs.declared.flow.Pair.TheVariants.{V4}
 use Rattle.steer_base.specs.declared.flow.Proto.TheVariants.{Tcp}
@@ -26,7 +27,7 @@ use Rattle.report.specs.Report.{report}
 -- a TCP segment from 66.9.149.187:2794 to 161.142.100.80:1766
 abbrev packet : Packet
 packet = record {
-  flow = Four (V4 1107924411 2710463568) Tcp 2794 1766;
+  flow = flow_shown (Four (V4 1107924411 2710463568) Tcp 2794 1766);
   hash = Some 1372373368;
   len = 54;
   flow_number = 0;

@@ -6,6 +6,7 @@ use Rattle.std.specs.Prelude.{◌≡◌, ℕ, ◌+◌, ◌^◌, ◌++◌, List, 
 use Rattle.atomic_table.specs.Seated.{TableId}
 use Rattle.linearization.specs.Orders.{StepBy, step_by, steps_of}
 use Rattle.linearization.specs.Seats.{SeatView, seat_view}
+use Rattle.steer_base.specs.Packets.{flow_shown}
 use Rattle.steer_base.specs.declared.choice.Chosen.{Chosen}
 use Rattle.steer_base.specs.declared.choice.Why.TheVariants.{Passed, Plain, Same, Unset}
 use Rattle.steer_base.specs.declared.command.Answer.TheVariants.{Done}
@@ -80,7 +81,7 @@ moving =
 
 -- A packet of the one flow, with the hash 2.
 abbrev pub of_the_flow : Packet
-of_the_flow = record { flow = Bare; hash = Some 2; len = 0; flow_number = 0 }
+of_the_flow = record { flow = flow_shown Bare; hash = Some 2; len = 0; flow_number = 0 }
 
 -- The plan with these settings, and a capture of three packets.
 abbrev pub moving_input : IsWithin moving → Input

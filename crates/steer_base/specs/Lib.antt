@@ -12,6 +12,7 @@ pub mod Journals
 pub mod Lanes
 pub mod Moves
 pub mod Orders
+pub mod Packets
 pub mod Sends
 pub mod Sets
 pub mod Sizes

@@ -10,6 +10,7 @@ use crate::flow_numbers::FlowNumbers;
 use flow_dissector::dissect;
 use pcap_reader::Capture;
 use std::alloc::Global;
+use std::snapshot::Snapshot;
 use steer_base::{OutOfMemory, Packet};
 use toeplitz::{Key, Kinds, TabledKey};
 
@@ -38,7 +39,7 @@ pub fn packets(
         let flow = dissect(frame);
         let flow_number = numbers.number_of(flow)?;
         packets.push(Packet {
-            flow,
+            flow: Snapshot::of(&flow),
             hash: key.hash(&flow, kinds),
             len: from.len,
             flow_number,

@@ -7,7 +7,7 @@ use std::snapshot::Snapshot;
 use steer_base::{OutOfMemory, Packet};
 
 /// What a run reads of a packet: its hash and the number of its flow, in 12 bytes. The packet
-/// itself, 96 bytes, is there for clauses alone and takes no memory.
+/// itself is there for clauses alone and takes no memory.
 #[derive(Drop)]
 pub struct Steered {
     /// The hash of the packet, if it has one.

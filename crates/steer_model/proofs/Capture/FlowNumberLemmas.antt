@@ -20,11 +20,11 @@ use Rattle.steer_model.specs.declared.flow_numbers.FlowNumbers.{FlowNumbers}
 -- The maps have the number of each packet's flow, and every number below their total is one of
 -- these.
 pub record HasNumbers (numbers : FlowNumbers) (packets : List Packet) : Type 0 where
-  pub fits : (y : ℕ) → y < length packets → FlowFits (packet_at packets y).flow
+  pub fits : (y : ℕ) → y < length packets → FlowFits (packet_at packets y).flow.value
   pub has : (y : ℕ) → y < length packets
-      → number_in numbers (packet_at packets y).flow ≡ Some (packet_at packets y).flow_number
+      → number_in numbers (packet_at packets y).flow.value ≡ Some (packet_at packets y).flow_number
   pub from : (flow : Flow) (n : ℕ) → FlowFits flow → number_in numbers flow ≡ Some n
-      → (y : ℕ) × (y < length packets) × ((packet_at packets y).flow ≡ flow)
+      → (y : ℕ) × (y < length packets) × ((packet_at packets y).flow.value ≡ flow)
   pub below : (y : ℕ) → y < length packets → (packet_at packets y).flow_number < flow_total numbers
   pub every : (n : ℕ) → n < flow_total numbers
       → (y : ℕ) × (y < length packets) × ((packet_at packets y).flow_number ≡ n)
@@ -60,28 +60,29 @@ place-of {packets} {more} {x} l y lt =
 
 -- the flows fit, with one more that does
 fits-more : (packets : List Packet) (x : Packet) (more : List Packet) → IsLonger packets x more
-    → ((y : ℕ) → y < length packets → FlowFits (packet_at packets y).flow) → FlowFits x.flow
-    → (y : ℕ) → y < length more → FlowFits (packet_at more y).flow
+    → ((y : ℕ) → y < length packets → FlowFits (packet_at packets y).flow.value)
+    → FlowFits x.flow.value
+    → (y : ℕ) → y < length more → FlowFits (packet_at more y).flow.value
 fits-more packets x more l all fits y lt =
     elim (place-of l y lt) [
-      | inl o ↦ subst (λ (p : Packet). FlowFits p.flow) (sym (l.old y o)) (all y o)
+      | inl o ↦ subst (λ (p : Packet). FlowFits p.flow.value) (sym (l.old y o)) (all y o)
       | inr e ↦
-          subst (λ (p : Packet). FlowFits p.flow)
+          subst (λ (p : Packet). FlowFits p.flow.value)
           (sym (ap (λ n. packet_at more n) e ∙ l.last)) fits
     ]
 
 -- one number for each flow, by the maps
 same-by : (numbers : FlowNumbers) (packets : List Packet)
     → ((y : ℕ) → y < length packets
-    → number_in numbers (packet_at packets y).flow ≡ Some (packet_at packets y).flow_number)
+    → number_in numbers (packet_at packets y).flow.value ≡ Some (packet_at packets y).flow_number)
     → (x y : ℕ) → x < length packets → y < length packets
-    → (packet_at packets x).flow ≡ (packet_at packets y).flow
+    → (packet_at packets x).flow.value ≡ (packet_at packets y).flow.value
     → (packet_at packets x).flow_number ≡ (packet_at packets y).flow_number
 same-by numbers packets has x y lt within flow =
     let a = has x lt in
     let b = has y within in
-    let c : number_in numbers (packet_at packets x).flow ≡ number_in numbers
-    (packet_at packets y).flow =
+    let c : number_in numbers (packet_at packets x).flow.value ≡ number_in numbers
+    (packet_at packets y).flow.value =
     ap (λ f. number_in numbers f) flow in
     cc
 
@@ -89,18 +90,19 @@ same-by numbers packets has x y lt within flow =
 numbered-more : (packets : List Packet) (x : Packet) (more : List Packet) → IsLonger packets x more
     → AreNumbered packets
     → ((a b : ℕ) → a < length more → b < length more
-    → (packet_at more a).flow ≡ (packet_at more b).flow
+    → (packet_at more a).flow.value ≡ (packet_at more b).flow.value
     → (packet_at more a).flow_number ≡ (packet_at more b).flow_number)
     → ((a : ℕ) → a < length packets → (packet_at packets a).flow_number ≡ x.flow_number
-    → (packet_at packets a).flow ≡ x.flow)
+    → (packet_at packets a).flow.value ≡ x.flow.value)
     → ((n : ℕ) → n < x.flow_number
     → (y : ℕ) × (y < length packets) × ((packet_at packets y).flow_number ≡ n))
     → AreNumbered more
 numbered-more packets x more l numbered same apart_last first_last =
     record { same = same; apart = apart; first = first }
   where
-    flow-old : (y : ℕ) → y < length packets → (packet_at more y).flow ≡ (packet_at packets y).flow
-    flow-old y lt = ap (λ (p : Packet). p.flow) (l.old y lt)
+    flow-old : (y : ℕ) → y < length packets
+        → (packet_at more y).flow.value ≡ (packet_at packets y).flow.value
+    flow-old y lt = ap (λ (p : Packet). p.flow.value) (l.old y lt)
 
     number-old : (y : ℕ) → y < length packets
         → (packet_at more y).flow_number ≡ (packet_at packets y).flow_number
@@ -111,7 +113,7 @@ numbered-more packets x more l numbered same apart_last first_last =
 
     apart : (a b : ℕ) → a < length more → b < length more
         → (packet_at more a).flow_number ≡ (packet_at more b).flow_number
-        → (packet_at more a).flow ≡ (packet_at more b).flow
+        → (packet_at more a).flow.value ≡ (packet_at more b).flow.value
     apart a b la lb e =
         elim (place-of l a la) [
           | inl oa ↦ elim (place-of l b lb) [
@@ -124,16 +126,16 @@ numbered-more packets x more l numbered same apart_last first_last =
                 flow-old a oa
                 ∙ apart_last a oa (sym (number-old a oa) ∙ e
                 ∙ ap (λ (p : Packet). p.flow_number) here)
-                ∙ sym (ap (λ (p : Packet). p.flow) here)
+                ∙ sym (ap (λ (p : Packet). p.flow.value) here)
           ]
           | inr ea ↦ elim (place-of l b lb) [
             | inl ob ↦
                 let here = is-last a ea in
-                ap (λ (p : Packet). p.flow) here
+                ap (λ (p : Packet). p.flow.value) here
                 ∙ sym (apart_last b ob (sym (number-old b ob) ∙ sym e
                 ∙ ap (λ (p : Packet). p.flow_number) here))
                 ∙ sym (flow-old b ob)
-            | inr eb ↦ ap (λ (p : Packet). p.flow) (is-last a ea ∙ sym (is-last b eb))
+            | inr eb ↦ ap (λ (p : Packet). p.flow.value) (is-last a ea ∙ sym (is-last b eb))
           ]
         ]
 
@@ -154,14 +156,19 @@ numbered-more packets x more l numbered same apart_last first_last =
 -- a packet of a flow that is known
 known-step : (numbers : FlowNumbers) (packets : List Packet)
     (x : Packet)
-    (more : List Packet) → IsLonger packets x more → FlowFits x.flow → HasNumbers numbers packets
-    → number_in numbers x.flow ≡ Some x.flow_number → HasNumbers numbers more
+    (more : List Packet) → IsLonger packets x more → FlowFits x.flow.value
+    → HasNumbers numbers packets
+    → number_in numbers x.flow.value ≡ Some x.flow_number → HasNumbers numbers more
 known-step numbers packets x more l fits h known =
     record {
       fits = fits-more packets x more l h.fits fits;
       has = has;
       from = λ flow n there e. (let y = h.from flow n there e in
-          (y.0, omega (arith, y.1, l.many), ap (λ (p : Packet). p.flow) (l.old y.0 y.1) ∙ y.2));
+          (
+            y.0,
+            omega (arith, y.1, l.many),
+            ap (λ (p : Packet). p.flow.value) (l.old y.0 y.1) ∙ y.2,
+          ));
       below = below;
       every = λ n lt. (let y = h.every n lt in (
         y.0,
@@ -178,24 +185,25 @@ known-step numbers packets x more l fits h known =
     }
   where
     has : (y : ℕ) → y < length more
-        → number_in numbers (packet_at more y).flow ≡ Some (packet_at more y).flow_number
+        → number_in numbers (packet_at more y).flow.value ≡ Some (packet_at more y).flow_number
     has y ly =
         elim (place-of l y ly) [
           | inl o ↦
-              subst (λ (p : Packet). number_in numbers p.flow ≡ Some p.flow_number)
+              subst (λ (p : Packet). number_in numbers p.flow.value ≡ Some p.flow_number)
               (sym (l.old y o)) (h.has y o)
           | inr e ↦
-              subst (λ (p : Packet). number_in numbers p.flow ≡ Some p.flow_number)
+              subst (λ (p : Packet). number_in numbers p.flow.value ≡ Some p.flow_number)
               (sym (ap (λ n. packet_at more n) e ∙ l.last)) known
         ]
 
-    twin : (t : ℕ) × (t < length packets) × ((packet_at packets t).flow ≡ x.flow)
-    twin = h.from x.flow x.flow_number fits known
+    twin : (t : ℕ) × (t < length packets) × ((packet_at packets t).flow.value ≡ x.flow.value)
+    twin = h.from x.flow.value x.flow_number fits known
 
     number : (packet_at packets twin.0).flow_number ≡ x.flow_number
     number =
         let a = h.has twin.0 twin.1 in
-        let b : number_in numbers (packet_at packets twin.0).flow ≡ number_in numbers x.flow =
+        let b : number_in numbers (packet_at packets twin.0).flow.value
+        ≡ number_in numbers x.flow.value =
         ap (λ f. number_in numbers f) twin.2 in
         cc
 
@@ -213,9 +221,9 @@ known-step numbers packets x more l fits h known =
 -- a packet of a new flow
 fresh-step : (old new : FlowNumbers)
     (packets : List Packet)
-    (x : Packet) (more : List Packet) → IsLonger packets x more → FlowFits x.flow
+    (x : Packet) (more : List Packet) → IsLonger packets x more → FlowFits x.flow.value
     → HasNumbers old packets
-    → IsFresh old new x.flow x.flow_number → HasNumbers new more
+    → IsFresh old new x.flow.value x.flow_number → HasNumbers new more
 fresh-step old new packets x more l fits h fresh =
     record {
       fits = fits-more packets x more l h.fits fits;
@@ -238,26 +246,35 @@ fresh-step old new packets x more l fits h fresh =
         ]
 
     has : (y : ℕ) → y < length more
-        → number_in new (packet_at more y).flow ≡ Some (packet_at more y).flow_number
+        → number_in new (packet_at more y).flow.value ≡ Some (packet_at more y).flow_number
     has y ly =
         elim (place-of l y ly) [
           | inl o ↦
-              subst (λ (p : Packet). number_in new p.flow ≡ Some p.flow_number) (sym (l.old y o))
+              subst (λ (p : Packet). number_in new p.flow.value ≡ Some p.flow_number)
+              (sym (l.old y o))
               (known _ _ (h.fits y o) (h.has y o))
           | inr e ↦
-              subst (λ (p : Packet). number_in new p.flow ≡ Some p.flow_number)
+              subst (λ (p : Packet). number_in new p.flow.value ≡ Some p.flow_number)
               (sym (ap (λ n. packet_at more n) e ∙ l.last)) fresh.own
         ]
 
     from : (flow : Flow) (n : ℕ) → FlowFits flow → number_in new flow ≡ Some n
-        → (y : ℕ) × (y < length more) × ((packet_at more y).flow ≡ flow)
+        → (y : ℕ) × (y < length more) × ((packet_at more y).flow.value ≡ flow)
     from flow n fits e =
         elim (fresh.others flow fits) [
           | inl s ↦
-              (length packets, omega (arith, l.many), ap (λ (p : Packet). p.flow) l.last ∙ sym s)
+              (
+                length packets,
+                omega (arith, l.many),
+                ap (λ (p : Packet). p.flow.value) l.last ∙ sym s,
+              )
           | inr s ↦ (
               let y = h.from flow n fits (sym s ∙ e) in
-              (y.0, omega (arith, y.1, l.many), ap (λ (p : Packet). p.flow) (l.old y.0 y.1) ∙ y.2))
+              (
+                y.0,
+                omega (arith, y.1, l.many),
+                ap (λ (p : Packet). p.flow.value) (l.old y.0 y.1) ∙ y.2,
+              ))
         ]
 
     below : (y : ℕ) → y < length more → (packet_at more y).flow_number < flow_total new
@@ -318,7 +335,7 @@ has-none numbers short long =
 
 -- the packets with one more, numbered by the maps
 pub has-more : (old new : FlowNumbers) (packets : List Packet) (x : Packet)
-    → HasNumbers old packets → FlowFits x.flow → IsNumberOf old new x.flow x.flow_number
+    → HasNumbers old packets → FlowFits x.flow.value → IsNumberOf old new x.flow.value x.flow_number
     → HasNumbers new (packets ++ x ∷ [])
 has-more old new packets x h fits (inl known) =
     subst (λ m. HasNumbers m (packets ++ x ∷ [])) (sym known.same)

@@ -6,6 +6,7 @@ use Rattle.std.proofs.lemmas.Bool.{cases_lt}
 use Rattle.std.proofs.lemmas.List.{get_or_default, same_lists}
 use Rattle.history.specs.Lists.{no_packet, packet_at}
 use Rattle.pcap_reader.specs.declared.record.PcapRecord.{PcapRecord}
+use Rattle.steer_base.specs.Packets.{flow_shown}
 use Rattle.steer_base.specs.declared.flow.Flow.{Flow}
 use Rattle.steer_base.specs.declared.packet.Packet.{Packet}
 use Rattle.steer_model.specs.State.Ranges.{AreOfFlows}
@@ -34,7 +35,8 @@ number-below packets numbered (suc bound) x lt within =
 -- two lists of packets with the same flows
 abbrev SameFlows : List Packet → List Packet → Type 0
 SameFlows packets others =
-    (x : ℕ) → x < length packets → (packet_at packets x).flow ≡ (packet_at others x).flow
+    (x : ℕ) → x < length packets
+    → (packet_at packets x).flow.value ≡ (packet_at others x).flow.value
 
 -- no number of one list is over that of the other, where all earlier ones are the same
 number-least : (packets others : List Packet) → length packets ≡ length others
@@ -54,7 +56,7 @@ number-least packets others many numbered other flows x within earlier =
           let there : y < length others = omega (arith, before.1) in
           let here : x < length others = omega arith in
           let equal : (packet_at others y).flow_number ≡ m = sym (earlier y before.1) ∙ before.2 in
-          let flow : (packet_at packets y).flow ≡ (packet_at packets x).flow =
+          let flow : (packet_at packets y).flow.value ≡ (packet_at packets x).flow.value =
           flows y inside ∙ other.apart y x there here equal ∙ sym (flows x within) in
           let same : (packet_at packets y).flow_number ≡ n = numbered.same y x inside within flow in
           omega (arith, before.2, same))
@@ -87,7 +89,7 @@ record-at (from ∷ rest) (suc x) lt = record-at rest x (omega arith)
 
 abbrev packet_of : Flow → Option ℕ → ℕ → ℕ → Packet
 packet_of flow hash len number = record {
-  flow = flow;
+  flow = flow_shown flow;
   hash = hash;
   len = len;
   flow_number = number;
@@ -97,13 +99,13 @@ same-packet : (key kinds : ℕ) (bytes : List ℕ) (from : PcapRecord) (p q : Pa
     → IsOfRecord key kinds bytes from p → IsOfRecord key kinds bytes from q
     → p.flow_number ≡ q.flow_number → p ≡ q
 same-packet key kinds bytes from p q a b number =
-    let flow : p.flow ≡ q.flow = a.flow ∙ sym b.flow in
+    let flow : p.flow.value ≡ q.flow.value = a.flow ∙ sym b.flow in
     let hash : p.hash ≡ q.hash = a.hash ∙ ap (λ f. hash_of_flow key f kinds) flow ∙ sym b.hash in
     let len : p.len ≡ q.len = a.len ∙ sym b.len in
     ap (λ f. packet_of f p.hash p.len p.flow_number) flow
-    ∙ ap (λ h. packet_of q.flow h p.len p.flow_number) hash
-    ∙ ap (λ n. packet_of q.flow q.hash n p.flow_number) len
-    ∙ ap (λ n. packet_of q.flow q.hash q.len n) number
+    ∙ ap (λ h. packet_of q.flow.value h p.len p.flow_number) hash
+    ∙ ap (λ n. packet_of q.flow.value q.hash n p.flow_number) len
+    ∙ ap (λ n. packet_of q.flow.value q.hash q.len n) number
 
 pub packets_are_one : (key kinds : ℕ) (bytes : List ℕ) (records : List PcapRecord)
     (packets others : List Packet)

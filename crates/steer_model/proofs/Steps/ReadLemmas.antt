@@ -25,7 +25,7 @@ pub read-more : (key kinds : ℕ) (bytes : List ℕ) (records : List PcapRecord)
     (packets more : List Packet) (x : Packet) (old new : FlowNumbers) → n < length records
     → AreRead key kinds bytes records n packets old → more ≡ packets ++ x ∷ []
     → IsOfRecord key kinds bytes (get_or records n d) x
-    → FlowFits x.flow → IsNumberOf old new x.flow x.flow_number
+    → FlowFits x.flow.value → IsNumberOf old new x.flow.value x.flow_number
     → AreRead key kinds bytes records (n + 1) more new
 read-more key kinds bytes records n d packets more x old new lt read is of fits number =
     subst (λ ps. AreRead key kinds bytes records (n + 1) ps new) (sym is)

@@ -15,19 +15,19 @@ frame_of bytes record_at = slice_range bytes record_at.start (record_at.start + 
 -- length.
 pub record IsOfRecord (key kinds : ℕ) (bytes : List ℕ) (from : PcapRecord) (packet : Packet)
     : Type 0 where
-  pub flow : packet.flow ≡ flow_of (frame_of bytes from)
-  pub hash : packet.hash ≡ hash_of_flow key packet.flow kinds
+  pub flow : packet.flow.value ≡ flow_of (frame_of bytes from)
+  pub hash : packet.hash ≡ hash_of_flow key packet.flow.value kinds
   pub len : packet.len ≡ from.len
 
 -- Flows are numbered from 0 in order of first appearance: one number for each flow, each after all
 -- smaller ones.
 pub record AreNumbered (packets : List Packet) : Type 0 where
   pub same : (x y : ℕ) → x < length packets → y < length packets
-      → (packet_at packets x).flow ≡ (packet_at packets y).flow
+      → (packet_at packets x).flow.value ≡ (packet_at packets y).flow.value
       → (packet_at packets x).flow_number ≡ (packet_at packets y).flow_number
   pub apart : (x y : ℕ) → x < length packets → y < length packets
       → (packet_at packets x).flow_number ≡ (packet_at packets y).flow_number
-      → (packet_at packets x).flow ≡ (packet_at packets y).flow
+      → (packet_at packets x).flow.value ≡ (packet_at packets y).flow.value
   pub first : (x n : ℕ) → x < length packets → n < (packet_at packets x).flow_number
       → (y : ℕ) × (y < x) × ((packet_at packets y).flow_number ≡ n)
 
