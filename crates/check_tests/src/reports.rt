@@ -8,24 +8,29 @@ use report_check::{ReportFault, is_report, read_report};
 use report_reader::{LaneSums, LastLine, read_parts};
 use std::alloc::Global;
 use std::process::Abort;
+use std::snapshot::Snapshot;
 use std::test::Fail;
 use steer_base::{AppId, Choice, Cpu, Flow, Packet, PacketId, Pair, Proto, Put, RxQueue, Why};
 
+const FLOW: Flow = Flow::Four(
+    Pair::V4 {
+        src: 0x4209_95bb,
+        dst: 0xa18e_6450,
+    },
+    Proto::Tcp,
+    2794,
+    1766,
+);
+
 // A TCP segment from 66.9.149.187:2794 to 161.142.100.80:1766, with its published hash.
-const SEGMENT: Packet = Packet {
-    flow: Flow::Four(
-        Pair::V4 {
-            src: 0x4209_95bb,
-            dst: 0xa18e_6450,
-        },
-        Proto::Tcp,
-        2794,
-        1766,
-    ),
-    hash: Some(0x51cc_c178),
-    len: 54,
-    flow_number: 0,
-};
+fn segment() -> Packet {
+    Packet {
+        flow: Snapshot::of(&FLOW),
+        hash: Some(0x51cc_c178),
+        len: 54,
+        flow_number: 0,
+    }
+}
 
 const REPORT: &[u8] = b"steer 1
 p 0 q 0 via reta class - want - head - tail - cpu 1 why plain at 1 app 0 in 1 place inbox
@@ -80,7 +85,7 @@ end 1 of 1
 ";
 
 fn is_of(rt: &impl Abort, alloc: Global, bytes: &[u8], start: u32, h: &History) -> bool {
-    is_report(alloc, bytes, &[SEGMENT], 1, start, h, &[]).expect(rt, "memory")
+    is_report(alloc, bytes, &[segment()], 1, start, h, &[]).expect(rt, "memory")
 }
 
 const CASES: [(&[u8], bool); 5] = [
@@ -105,7 +110,7 @@ fn a_report_is_its_bytes(rt: HostRuntime) {
 #[test]
 fn a_report_is_read_back(rt: HostRuntime) -> Result<(), Fail> {
     let alloc = rt.alloc();
-    let printed = read_report(alloc, REPORT, &[SEGMENT], 1, 0)
+    let printed = read_report(alloc, REPORT, &[segment()], 1, 0)
         .ok()
         .expect(&rt, "a report");
     same(
@@ -116,7 +121,7 @@ fn a_report_is_read_back(rt: HostRuntime) -> Result<(), Fail> {
     );
     same(&rt, &printed.texts.len(), &0, 1);
     for (case, bytes) in [UNENDED, LONGER, ELSEWHERE].iter().enumerate() {
-        let none = match read_report(alloc, bytes, &[SEGMENT], 1, 0) {
+        let none = match read_report(alloc, bytes, &[segment()], 1, 0) {
             Ok(_) => false,
             Err(fault) => fault == ReportFault::NoReport,
         };

@@ -7,42 +7,60 @@ use history::{Arrival, Commanded, History, LaneList, Lines, Sent, SockWrite};
 use history_check::is_regular;
 use std::alloc::Global;
 use std::process::Abort;
+use std::snapshot::Snapshot;
 use steer_base::{
     Answer, Choice, Chosen, Command, Cpu, CpuMask, DropCause, Flow, LaneDrop, List, Packet,
     PacketId, Pair, Proto, RxQueue, Why,
 };
 
+const SEGMENT_FLOW: Flow = Flow::Four(
+    Pair::V4 {
+        src: 0x4209_95bb,
+        dst: 0xa18e_6450,
+    },
+    Proto::Tcp,
+    2794,
+    1766,
+);
+
+const OTHER_FLOW: Flow = Flow::Four(
+    Pair::V4 {
+        src: 0xc75c_6f02,
+        dst: 0x4145_8c53,
+    },
+    Proto::Tcp,
+    14230,
+    4739,
+);
+
 // A TCP segment from 66.9.149.187:2794 to 161.142.100.80:1766, with its published hash.
-pub(crate) const SEGMENT: Packet = Packet {
-    flow: Flow::Four(
-        Pair::V4 {
-            src: 0x4209_95bb,
-            dst: 0xa18e_6450,
-        },
-        Proto::Tcp,
-        2794,
-        1766,
-    ),
-    hash: Some(0x51cc_c178),
-    len: 54,
-    flow_number: 0,
-};
+pub(crate) fn segment() -> Packet {
+    Packet {
+        flow: Snapshot::of(&SEGMENT_FLOW),
+        hash: Some(0x51cc_c178),
+        len: 54,
+        flow_number: 0,
+    }
+}
 
 // One from 199.92.111.2:14230 to 65.69.140.83:4739.
-pub(crate) const OTHER_SEGMENT: Packet = Packet {
-    flow: Flow::Four(
-        Pair::V4 {
-            src: 0xc75c_6f02,
-            dst: 0x4145_8c53,
-        },
-        Proto::Tcp,
-        14230,
-        4739,
-    ),
-    hash: Some(0xc626_b0ea),
-    len: 54,
-    flow_number: 1,
-};
+pub(crate) fn other_segment() -> Packet {
+    Packet {
+        flow: Snapshot::of(&OTHER_FLOW),
+        hash: Some(0xc626_b0ea),
+        len: 54,
+        flow_number: 1,
+    }
+}
+
+// So many of the first.
+pub(crate) fn segments(rt: &impl Abort, alloc: Global, count: usize) -> Vec<Packet> {
+    let mut packets = Vec::with_capacity(alloc, count).expect(rt, "memory");
+    for _ in 0..count {
+        packets.push(segment()).expect(rt, "memory");
+    }
+    packets
+}
 
 // Processor 1, without a class.
 pub(crate) const PLAIN: Choice = Choice {

@@ -1,5 +1,5 @@
 //! The report of as many packets as a capture may have.
-use crate::histories::{PLAIN, SEGMENT, lines_of, none};
+use crate::histories::{PLAIN, lines_of, none, segment};
 use history::{Arrival, History, LaneList, Sent};
 use outside_io::MemorySink;
 use report::{LineBuf, render};
@@ -140,11 +140,10 @@ fn history(rt: &impl Abort, alloc: Global) -> History {
 fn packets(alloc: Global) -> Result<Vec<Packet>, OutOfMemory> {
     let mut packets = Vec::with_capacity(alloc, PACKETS as usize)?;
     for id in 0..PACKETS {
-        packets.push(Packet {
-            hash: Some(id),
-            flow_number: id % 512,
-            ..SEGMENT
-        })?;
+        let mut packet = segment();
+        packet.hash = Some(id);
+        packet.flow_number = id % 512;
+        packets.push(packet)?;
     }
     Ok(packets)
 }

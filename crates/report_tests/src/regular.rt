@@ -2,7 +2,7 @@
 ghost use Rattle.std.specs.Prelude.{◌≤◌, length};
 
 use crate::histories::{
-    PLAIN, SEGMENT, chosen, classed, ids, lane, lanes, none, one, replied, two,
+    PLAIN, chosen, classed, ids, lane, lanes, none, one, replied, segment, two,
 };
 use history::{Commanded, History, LaneList, Sent};
 use history_check::is_regular;
@@ -114,7 +114,7 @@ fn has_passed(rt: &impl Abort, alloc: Global, h: &History, packets: &[Packet], a
 #[test]
 fn each_fault_is_irregular(rt: HostRuntime) {
     let alloc = rt.alloc();
-    let packets = [SEGMENT];
+    let packets = [segment()];
     let whole = replied(&rt, alloc, 0);
     assert!(&rt; has_passed(&rt, alloc, &whole, &packets, 1));
     assert!(&rt; !has_passed(&rt, alloc, &whole, &packets, 2));

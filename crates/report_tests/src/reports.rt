@@ -4,8 +4,8 @@ ghost use Rattle.report.specs.Made.{AreLinesOf};
 
 use crate::equal::same_items;
 use crate::histories::{
-    OTHER_SEGMENT, SEGMENT, delivered, filtered, full, lane, limited, lines_of, list, moved, one,
-    received, replied, replying, waiting,
+    delivered, filtered, full, lane, limited, lines_of, list, moved, one, other_segment, received,
+    replied, replying, segment, segments, waiting,
 };
 use history::{Commanded, History, Lines};
 use outside_io::MemorySink;
@@ -66,7 +66,7 @@ end 4 of 4
         &rt,
         alloc,
         &moved(&rt, alloc, 0),
-        &[SEGMENT; 4],
+        &[segment(), segment(), segment(), segment()],
         wanted.as_slice(),
     );
     let wanted = b"steer 1
@@ -90,7 +90,7 @@ end 4 of 4
         &rt,
         alloc,
         &moved(&rt, alloc, 4294967294),
-        &[SEGMENT; 4],
+        &[segment(), segment(), segment(), segment()],
         wanted.as_slice(),
     );
 }
@@ -114,7 +114,7 @@ end 3 of 3
         &rt,
         alloc,
         &full(&rt, alloc),
-        &[SEGMENT; 3],
+        &[segment(), segment(), segment()],
         wanted.as_slice(),
     );
 }
@@ -136,7 +136,7 @@ end 1 of 1
         &rt,
         alloc,
         &delivered(&rt, alloc, 4),
-        &[SEGMENT],
+        &[segment()],
         wanted.as_slice(),
     );
 }
@@ -158,7 +158,7 @@ end 1 of 1
         &rt,
         alloc,
         &replied(&rt, alloc, 0),
-        &[SEGMENT],
+        &[segment()],
         wanted.as_slice(),
     );
     let wanted = b"steer 1
@@ -175,7 +175,7 @@ end 1 of 1
         &rt,
         alloc,
         &replied(&rt, alloc, 4294967295),
-        &[SEGMENT],
+        &[segment()],
         wanted.as_slice(),
     );
 }
@@ -214,8 +214,9 @@ end 201 of 201
 #[test]
 fn the_flow_limit_drops(rt: HostRuntime) {
     let alloc = rt.alloc();
-    let mut packets = [SEGMENT; 201];
-    packets[200] = OTHER_SEGMENT;
+    let mut packets = segments(&rt, alloc, 200);
+    packets.push(other_segment()).expect(&rt, "memory");
+    assert!(&rt; packets.len() == 201);
     let wanted = limited_text(alloc).expect(&rt, "memory");
     reads(
         &rt,
@@ -246,7 +247,7 @@ end 5 of 5
         &rt,
         alloc,
         &filtered(&rt, alloc),
-        &[SEGMENT; 5],
+        &[segment(), segment(), segment(), segment(), segment()],
         wanted.as_slice(),
     );
 }
@@ -272,7 +273,7 @@ end 3 of 3
         &rt,
         alloc,
         &replying(&rt, alloc),
-        &[SEGMENT; 3],
+        &[segment(), segment(), segment()],
         wanted.as_slice(),
     );
 }
@@ -366,7 +367,7 @@ fn two_texts(rt: &impl Abort, alloc: Global, lines: &Lines) -> Vec<TapText> {
 fn two_taps_stand_before_the_end(rt: HostRuntime) {
     let alloc = rt.alloc();
     let h = moved(&rt, alloc, 0);
-    let packets = [SEGMENT; 4];
+    let packets = [segment(), segment(), segment(), segment()];
     let lines = lines_of(&rt, alloc, &h, &packets, 1);
     let texts = two_texts(&rt, alloc, &lines);
     let (done, out) = written(&rt, alloc, &h, &lines, &texts, &[]);
@@ -437,7 +438,7 @@ fn goes_out(
 fn a_report_goes_out_line_by_line(rt: HostRuntime) {
     let alloc = rt.alloc();
     let h = moved(&rt, alloc, 0);
-    let packets = [SEGMENT; 4];
+    let packets = [segment(), segment(), segment(), segment()];
     let lines = lines_of(&rt, alloc, &h, &packets, 1);
     let pieces = [
         b"steer 1\n".as_slice(),
@@ -469,7 +470,7 @@ fn a_report_goes_out_line_by_line(rt: HostRuntime) {
 fn each_section_goes_out_line_by_line(rt: HostRuntime) {
     let alloc = rt.alloc();
     let h = waiting(&rt, alloc);
-    let packets = [SEGMENT; 3];
+    let packets = [segment(), segment(), segment()];
     let lines = lines_of(&rt, alloc, &h, &packets, 1);
     let texts = [TapText {
         bytes: Vec::from_slice(alloc, b"flow 0 packets 2\nflow 1 packets 1\n").expect(

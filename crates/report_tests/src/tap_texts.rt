@@ -2,7 +2,7 @@
 ghost use Rattle.std.specs.Prelude.{◌≡◌, length};
 
 use crate::equal::{same, same_items};
-use crate::histories::{PLAIN, SEGMENT, lines_of, none, received};
+use crate::histories::{PLAIN, lines_of, none, received, segment};
 use history::{History, Lines, PacketLine, Place, Via};
 use std::alloc::Global;
 use std::cell::Cell;
@@ -205,7 +205,7 @@ fn every_tap_is_dropped_once(rt: HostRuntime) -> Result<(), Fail> {
     let alloc = rt.alloc();
     // Three packets wait in the ring of their queue.
     let h = received(&rt, alloc, &[0; 3], &[], none(alloc), &[]);
-    let packets = [SEGMENT; 3];
+    let packets = [segment(), segment(), segment()];
     let lines = three_lines(&rt, alloc, &h, &packets);
     same(&rt, &fed(alloc, &lines, 9)?, &(true, 2, 1, 3, 1), 0);
     same(&rt, &fed(alloc, &lines, 2)?, &(false, 2, 1, 2, 1), 1);

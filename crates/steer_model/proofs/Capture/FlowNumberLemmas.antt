@@ -163,12 +163,11 @@ known-step numbers packets x more l fits h known =
     record {
       fits = fits-more packets x more l h.fits fits;
       has = has;
-      from = λ flow n there e. (let y = h.from flow n there e in
-          (
-            y.0,
-            omega (arith, y.1, l.many),
-            ap (λ (p : Packet). p.flow.value) (l.old y.0 y.1) ∙ y.2,
-          ));
+      from = λ flow n there e. (let y = h.from flow n there e in (
+        y.0,
+        omega (arith, y.1, l.many),
+        ap (λ (p : Packet). p.flow.value) (l.old y.0 y.1) ∙ y.2,
+      ));
       below = below;
       every = λ n lt. (let y = h.every n lt in (
         y.0,
@@ -262,15 +261,13 @@ fresh-step old new packets x more l fits h fresh =
         → (y : ℕ) × (y < length more) × ((packet_at more y).flow.value ≡ flow)
     from flow n fits e =
         elim (fresh.others flow fits) [
-          | inl s ↦
-              (
-                length packets,
-                omega (arith, l.many),
-                ap (λ (p : Packet). p.flow.value) l.last ∙ sym s,
-              )
+          | inl s ↦ (
+            length packets,
+            omega (arith, l.many),
+            ap (λ (p : Packet). p.flow.value) l.last ∙ sym s,
+          )
           | inr s ↦ (
-              let y = h.from flow n fits (sym s ∙ e) in
-              (
+              let y = h.from flow n fits (sym s ∙ e) in (
                 y.0,
                 omega (arith, y.1, l.many),
                 ap (λ (p : Packet). p.flow.value) (l.old y.0 y.1) ∙ y.2,
