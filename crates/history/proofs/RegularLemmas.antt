@@ -7,13 +7,14 @@ use Rattle.std.specs.Prelude.{◌==◌}
 use Rattle.std.specs.List.{range_with_len}
 use Rattle.std.specs.Option.{option_map, is_some}
 use Rattle.std.proofs.lemmas.Bool.{cases_Bool, cases_eq, eqb-true}
+use Rattle.std.proofs.lemmas.List.{get_or_default}
 use Rattle.steer_base.specs.Orders.{IsPrefix}
 use Rattle.steer_base.specs.declared.choice.Chosen.{Chosen}
 use Rattle.steer_base.specs.declared.packet.Packet.{Packet}
 use Rattle.history.specs.Finding.{is_in, found}
 use Rattle.history.specs.Lines.{choice_in, choice_of, tx_choice_of}
 use Rattle.history.specs.Lists.{no_arrival, list_at, lane_at, drop_ids, arrival_of, arrivals_at}
-use Rattle.history.specs.Lists.{app_at}
+use Rattle.history.specs.Lists.{app_at, no_packet, packet_at}
 use Rattle.history.specs.Regular.{Regular, HasChoice}
 use Rattle.history.specs.declared.arrival.Arrival.{Arrival}
 use Rattle.history.specs.declared.history.History.{History}
@@ -229,3 +230,11 @@ module _ (packets : List Packet) (apps : ℕ) (h : History) (regular : Regular p
 
   pub arrived-port : (x : ℕ) → is_in x h.port ≡ true → x < length h.arrivals
   arrived-port x s = let w = regular.shipped.port x s in arrived-shipped w.0 x w.1
+
+-- The packet at the index of an arrival is that of the capture.
+pub packet-at : (packets : List Packet) (apps : ℕ) (h : History) → Regular packets apps h
+    → (x : ℕ) (p : Packet) → x < length h.arrivals → p ≡ get_or packets x p
+    → p ≡ packet_at packets x
+packet-at packets apps h regular x p here is =
+    is
+    ∙ get_or_default packets x p no_packet (omega (arith, here, regular.arrived.of_the_capture))

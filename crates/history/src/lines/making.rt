@@ -41,7 +41,7 @@ pub(crate) fn packet_line(
     ensures { result ≡ line_of_packet packets.now apps h.now id }
 {
     let arrival = h.arrivals.get(id.0 as usize);
-    let packet = packets[id.0 as usize];
+    let packet = &packets[id.0 as usize];
     let queue = arrival.queue.0 as usize;
     let app = app_of(packet.hash, apps);
     let choice = choice_at(&h.choices, queue, rank as usize);
@@ -73,7 +73,7 @@ pub(crate) fn reply_line(
     requires arrived { id < length h.now.arrivals }
     ensures { result ≡ line_of_reply packets.now apps h.now id }
 {
-    let packet = packets[id.0 as usize];
+    let packet = &packets[id.0 as usize];
     let app = app_of(packet.hash, apps);
     let index = index_of(slots.inboxes.get(id))?;
     let sent = sent_at(&h.sent, app.0 as usize, index)?;

@@ -2,13 +2,15 @@ use Rattle.std.proofs.Common.{◌≡◌, sym, ◌∙◌, ap, get_or}
 use Rattle.std.specs.Prelude.{nat_lt, slice_get, slice_index}
 use Rattle.std.specs.Option.{option_map, option_or}
 use Rattle.std.proofs.lemmas.List.{get_or_default}
+use Rattle.steer_base.specs.Apps.{app_of}
 use Rattle.steer_base.specs.Counters.{number}
+use Rattle.steer_base.specs.declared.packet.Packet.{Packet}
 use Rattle.steer_base.specs.declared.put.Put.TheVariants.{At}
 use Rattle.history.specs.Lines.{accepted_place, choice_of, inbox_place_of, put_of, via_of}
-use Rattle.history.specs.Lists.{arrival_of, app_at, list_at, no_arrival, packet_at}
+use Rattle.history.specs.Lists.{arrival_of, app_at, list_at, no_arrival}
 use Rattle.history.specs.Places.{place_of, was_taken}
 use Rattle.history.proofs.PlaceLemmas.{place-by}
-use Rattle.history.proofs.RegularLemmas.{arrival-at}
+use Rattle.history.proofs.RegularLemmas.{arrival-at, packet-at}
 use Rattle.history.proofs.SlotLemmas.{choice-at, taken-at}
 use Rattle.history.proofs.lines.making.packet_line.Goals as goal
 
@@ -45,8 +47,11 @@ returns c =
     c.get-2.result) accepted
     ∙ ap (λ o. option_or (option_map (λ n. At n) (option_map (number h.start)
     (accepted_place h.lanes x))) o) drop in
+    let packet = packet-at packets apps h regular x c.index-packets-id.result here
+    (c.index-packets-id.is
+    ∙ ap (λ i. get_or packets i c.index-packets-id.result) c.id.view_is) in
     let app : c.app_of-app.result ≡ app_at packets apps x = c.app_of-app.ensures.value
-    ∙ ap (λ i. app_at packets apps i) c.id.view_is in
+    ∙ ap (λ (p : Packet). app_of p.hash apps) packet in
     let inbox : c.get-3.result ≡ inbox_place_of h x = c.get-3.ensures ∙ slots.inboxes.slot x here in
     let lane = c.lane_of.ensures ∙ ap (option_map (λ d. d.lane)) choice in
     let place : c.place_of.result ≡ place_of h x = c.place_of.ensures
@@ -61,6 +66,5 @@ returns c =
       app = app w;
       inbox = inbox w;
       place = place w;
-      flow_number =
-          ap (λ i. (packet_at packets i).flow_number) c.id.view_is w;
+      flow_number = ap (λ (p : Packet). p.flow_number) packet w;
     }

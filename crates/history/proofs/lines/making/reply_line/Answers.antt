@@ -1,10 +1,13 @@
-use Rattle.std.proofs.Common.{◌≡◌, Some, sym, ◌∙◌, ap}
+use Rattle.std.proofs.Common.{◌≡◌, Some, sym, ◌∙◌, ap, get_or}
 use Rattle.std.specs.Prelude.{slice_get}
 use Rattle.std.specs.Option.{option_and_then, option_map}
+use Rattle.steer_base.specs.Apps.{app_of}
 use Rattle.steer_base.specs.Counters.{number}
+use Rattle.steer_base.specs.declared.packet.Packet.{Packet}
 use Rattle.history.specs.Lines.{first_reply_to, line_of_sent, tx_choice_of}
-use Rattle.history.specs.Lists.{app_at, list_at, packet_at}
+use Rattle.history.specs.Lists.{app_at, list_at}
 use Rattle.history.specs.Slots.{index_before}
+use Rattle.history.proofs.RegularLemmas.{packet-at}
 use Rattle.history.proofs.SlotLemmas.{no-reply, reply-from, tx_choice-at}
 use Rattle.history.proofs.lines.making.reply_line.Goals as goal
 
@@ -28,8 +31,12 @@ returns-in_err-sent c =
     let r = c.in_ok-index.index in
     let inbox = c.get.ensures ∙ c.requires.slots.inboxes.slot x c.requires.arrived in
     let index = c.index_of.ensures ∙ ap (option_and_then index_before) inbox in
+    let packet = packet-at packets apps h c.requires.regular x c.index-packets-id.result
+    c.requires.arrived
+    (c.index-packets-id.is
+    ∙ ap (λ i. get_or packets i c.index-packets-id.result) c.id.view_is) in
     let app = c.app.view_is ∙ c.app_of-app.ensures.value
-    ∙ ap (λ i. app_at packets apps i) c.id.view_is in
+    ∙ ap (λ (p : Packet). app_of p.hash apps) packet in
     let reply = reply-from packets apps h c.requires.regular x r (sym index ∙ c.in_ok-index.was) in
     let none = reply ∙ sym (ap (λ a. slice_get (list_at h.sent a) r) app) ∙ sym c.sent_at.ensures
     ∙ c.in_err-sent.was in
@@ -48,8 +55,11 @@ returns c =
     let inbox = c.get.ensures ∙ slots.inboxes.slot x here in
     let index = c.index_of.ensures ∙ ap (option_and_then index_before) inbox in
     let is = sym index ∙ c.in_ok-index.was in
+    let packet = packet-at packets apps h c.requires.regular x c.index-packets-id.result here
+    (c.index-packets-id.is
+    ∙ ap (λ i. get_or packets i c.index-packets-id.result) c.id.view_is) in
     let app : c.app_of-app.result ≡ app_at packets apps x = c.app_of-app.ensures.value
-    ∙ ap (λ i. app_at packets apps i) c.id.view_is in
+    ∙ ap (λ (p : Packet). app_of p.hash apps) packet in
     let reply : first_reply_to h x ≡ Some c.in_ok-sent.sent =
     reply-from packets apps h c.requires.regular x r is
     ∙ sym (ap (λ a. slice_get (list_at h.sent a) r) (c.app.view_is ∙ app)) ∙ sym c.sent_at.ensures
@@ -69,6 +79,6 @@ returns c =
       choice = choice w;
       put = put w;
       port = port w;
-      flow_number = ap (λ i. (packet_at packets i).flow_number) c.id.view_is w;
+      flow_number = ap (λ (p : Packet). p.flow_number) packet w;
     }))
     ∙ sym (ap (option_map (line_of_sent packets apps h x)) reply)
