@@ -42,7 +42,8 @@ module _ (t : StageView) (w v : Worker) (s r : Seats)
   module _ (i : ℕ) (d e : Drain) (drains : v.drains.items ≡ slice_set w.drains.items i e)
       (ships : v.ships.items ≡ w.ships.items) (tx : r.tx ≡ s.tx)
       (there : slice_get w.drains.items i ≡ Some d) (serves : Serves (this_lane d.lane) s.rx r.rx)
-      (is : IsDrain given e r.rx.steps) (lane : e.lane ≡ d.lane) (exit : e.exit ≡ d.exit) where
+      (is : IsDrain given e r.rx.steps) (lane : e.lane ≡ d.lane) (exit : e.exit ≡ d.exit)
+      (start : e.start ≡ d.start) where
     rx : SameSeat s.rx r.rx
     rx = same_seat s.rx r.rx d.lane serves
 
@@ -51,7 +52,7 @@ module _ (t : StageView) (w v : Worker) (s r : Seats)
         lane_goes_on t.rx given Inboxes s.rx r.rx w.drains.items v.drains.items w.pollers.items
         v.pollers.items (KeepsPoller t s x.first x.turns x.marks)
         (KeepsPoller t r x.first x.turns x.marks) x.turns i d e drains there serves is lane exit
-        (received t w v s r x) (ap length pollers)
+        start (received t w v s r x) (ap length pollers)
         (pollers_stay t w v s r x hint_grow pollers rx.number)
 
     pub drain_goes_on : GoesOn t w v s r
@@ -73,7 +74,8 @@ module _ (t : StageView) (w v : Worker) (s r : Seats)
   module _ (i : ℕ) (d e : Drain) (drains : v.drains.items ≡ w.drains.items)
       (ships : v.ships.items ≡ slice_set w.ships.items i e) (rx : r.rx ≡ s.rx)
       (there : slice_get w.ships.items i ≡ Some d) (serves : Serves (this_lane d.lane) s.tx r.tx)
-      (is : IsDrain given e r.tx.steps) (lane : e.lane ≡ d.lane) (exit : e.exit ≡ d.exit) where
+      (is : IsDrain given e r.tx.steps) (lane : e.lane ≡ d.lane) (exit : e.exit ≡ d.exit)
+      (start : e.start ≡ d.start) where
     tx : SameSeat s.tx r.tx
     tx = same_seat s.tx r.tx d.lane serves
 
@@ -82,7 +84,7 @@ module _ (t : StageView) (w v : Worker) (s r : Seats)
         lane_goes_on t.tx given Port s.tx r.tx w.ships.items v.ships.items w.servers.items
         v.servers.items (KeepsServer t s x.rows x.replies x.noted)
         (KeepsServer t r x.rows x.replies x.noted) x.replies i d e ships there serves is lane exit
-        (transmitted t w v s r x) (ap length servers)
+        start (transmitted t w v s r x) (ap length servers)
         (servers_stay t w v s r x hint_grow servers tx.number (seat_stays s.rx r.rx rx).steps)
 
     pub ship_goes_on : GoesOn t w v s r

@@ -39,7 +39,7 @@ module _ {A : Type 0} (board : BoardView) (given : Setup) (exit : Exit) (old new
     (turns : List (StepBy Turn)) (i : ℕ) (d e : Drain) (set : es ≡ slice_set ds i e)
     (there : slice_get ds i ≡ Some d) (serves : Serves (this_lane d.lane) old new)
     (is : IsDrain given e new.steps) (lane : e.lane ≡ d.lane) (way : e.exit ≡ d.exit)
-    (k : KeepsBoard board given exit old ds before Was turns) where
+    (start : e.start ≡ d.start) (k : KeepsBoard board given exit old ds before Was turns) where
   was : KeepsDrain board.sizes given exit old i d
   was = k.each_drain i d there
 
@@ -75,6 +75,6 @@ module _ {A : Type 0} (board : BoardView) (given : Setup) (exit : Exit) (old new
         each_drain = each_same (KeepsDrain board.sizes given exit new) (slice_set ds i e) es set
             (each_set (KeepsDrain board.sizes given exit new)
             (KeepsDrain board.sizes given exit old) ds i e
-            (drain_keeps board.sizes given exit old new i d e number lane way is was) other_drain
-            k.each_drain);
+            (drain_keeps board.sizes given exit old new i d e number lane way start is was)
+            other_drain k.each_drain);
       }

@@ -71,6 +71,7 @@ module _ (t : StageView) (w v : Worker) (s r : Seats) (i : ℕ) (y u : Server) (
           own = stay.app ∙ (was.own ∙ ap (λ n. actor_at t.tx.sizes n i) (sym stay.number));
           within = subst (λ n. n < t.rx.sizes.outs) (sym stay.app) was.within;
           room = stay.room ∙ was.room;
+          start = stay.start ∙ was.start;
           is = is;
           keeps = subst (λ (z : BoardSeatView). IsReplying given x.rows t.tx.sizes.start t.late u
               on.more x.noted z.steps r.hint.steps) (sym rx) on.keeps;

@@ -48,14 +48,15 @@ module _ (t : StageView) (s r : Seats) where
 -- a drain with the record of its seat's steps after a call
 pub drain_keeps : (about : BoardSizes) (given : Setup) (exit : Exit) (old new : BoardSeatView)
     (k : ℕ) (d e : Drain) → new.number ≡ old.number → e.lane ≡ d.lane → e.exit ≡ d.exit
-    → IsDrain given e new.steps → KeepsDrain about given exit old k d
+    → e.start ≡ d.start → IsDrain given e new.steps → KeepsDrain about given exit old k d
     → KeepsDrain about given exit new k e
-drain_keeps about given exit old new k d e number lane way is x =
+drain_keeps about given exit old new k d e number lane way start is x =
     record {
       own = lane ∙ (x.own ∙ ap (λ n. actor_at about n k) (sym number));
       within = subst (λ n. n < about.lanes) (sym lane) x.within;
       mine = subst (λ (z : ℕ × ℕ). Pulls about z.0 z.1) (λ j. (sym number j, sym lane j)) x.mine;
       exit_is = way ∙ x.exit_is;
+      start = start ∙ x.start;
       is = is;
     }
 
@@ -65,4 +66,4 @@ pub drain_stays : (about : BoardSizes) (given : Setup) (exit : Exit) (old new : 
     → (IsDrain given d old.steps → IsDrain given d new.steps)
     → KeepsDrain about given exit old k d → KeepsDrain about given exit new k d
 drain_stays about given exit old new k d number stays x =
-    drain_keeps about given exit old new k d d number refl refl (stays x.is) x
+    drain_keeps about given exit old new k d d number refl refl refl (stays x.is) x

@@ -47,24 +47,28 @@ pub record KeepsPoller (t : StageView) (s : Seats) (first : ℕ → ℕ)
   pub is : IsPoller t.shared.given.cpus p
   pub keeps : IsPolling t.shared.given (first p.queue) t.rx.sizes.start p turns marks s.hint.steps
 
--- A drain has its own lane, from which its seat may pull, and this exit, and its record over the
--- steps of its seat.
+-- A drain has its own lane, from which its seat may pull, and this exit, counts from the number at
+-- which the counters of the board start, and has its record over the steps of its seat.
 pub record KeepsDrain (about : BoardSizes) (given : Setup) (exit : Exit) (seat : BoardSeatView)
     (k : ℕ) (d : Drain) : Type 0 where
   pub own : d.lane ≡ actor_at about seat.number k
   pub within : d.lane < about.lanes
   pub mine : Pulls about seat.number d.lane
   pub exit_is : d.exit ≡ exit
+  pub start : d.start ≡ about.start
   pub is : IsDrain given d seat.steps
 
--- An application is one of its worker's own, has room for all packets, and has its record over the
--- turns of its seat at the transmit board. `rows` is the number of classes of its flow table.
+-- An application is one of its worker's own, has room for all packets, counts from the number at
+-- which the counters of the receive board start, whose out lanes the inboxes are, and has its
+-- record over the turns of its seat at the transmit board. `rows` is the number of classes of its
+-- flow table.
 pub record KeepsServer (t : StageView) (s : Seats) (rows : ℕ)
     (replies : List (StepBy Turn)) (noted : List (StepBy Note)) (k : ℕ) (v : Server)
     : Type 0 where
   pub own : v.app ≡ actor_at t.tx.sizes s.tx.number k
   pub within : v.app < t.rx.sizes.outs
   pub room : v.sent.room ≡ t.rx.sizes.room
+  pub start : v.start ≡ t.rx.sizes.start
   pub is : IsServer t.shared.given v
   pub keeps : IsReplying t.shared.given rows t.tx.sizes.start t.late v replies noted s.rx.steps
       s.hint.steps

@@ -49,6 +49,7 @@ pub record IsNewDrain (about : BoardSizes) (given : Setup) (exit : Exit) (number
   pub within : d.lane < about.lanes
   pub mine : Pulls about number d.lane
   pub exit_is : d.exit ≡ exit
+  pub start : d.start ≡ about.start
   pub is : IsDrain given d []
 
 -- An application of the worker's own, as it was made.
@@ -56,6 +57,7 @@ pub record IsNewServer (t : StageView) (number rows k : ℕ) (v : Server) : Type
   pub own : v.app ≡ actor_at t.tx.sizes number k
   pub within : v.app < t.rx.sizes.outs
   pub room : v.sent.room ≡ t.rx.sizes.room
+  pub start : v.start ≡ t.rx.sizes.start
   pub is : IsServer t.shared.given v
   pub hand : v.hand ≡ None
   pub table : v.table ≡ cleared rows t.tx.sizes.start true

@@ -52,6 +52,7 @@ impl Drain {
     pub fn new(lane: u8, exit: Exit, start: u32) -> Drain
         ensures lane { result.lane ≡ lane }
         ensures exit { result.exit ≡ exit }
+        ensures start { result.start ≡ start }
         ensures is { (given : Setup) → IsDrain given result [] }
     {
         Drain {
@@ -77,6 +78,7 @@ impl Drain {
         ensures did { Moves self.old self.new result }
         ensures lane { self.new.lane ≡ self.old.lane }
         ensures exit { self.new.exit ≡ self.old.exit }
+        ensures start { self.new.start ≡ self.old.start }
     {
         let mut did = false;
         for round in 0..given.packet_count() {
@@ -173,8 +175,8 @@ impl Drain {
         ensures stops { result ≡ false
             → Stops (B.view board.now).sizes given.now self.new seat.old seat.new }
         ensures did { Moves self.old self.new result }
-        ensures lane { self.new.lane ≡ self.old.lane }
-        ensures exit { self.new.exit ≡ self.old.exit }
+        ensures same { self.new
+            ≡ record self.old { hand = self.new.hand; retired = self.new.retired } }
     {
         if self.retired >= given.packet_count() {
             return false;

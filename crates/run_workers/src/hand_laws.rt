@@ -27,8 +27,8 @@ pub fn polls_stay_at_their_seats()
     ensures { PollsStay }
 {}
 
-/// Lemma: a call of an application leaves which it is, its home, its room for replies, and the
-/// tables and numbers of the seats.
+/// Lemma: a call of an application leaves which it is, its home, the number from which it counts,
+/// its room for replies, and the tables and numbers of the seats.
 pub fn applications_stay_at_their_seats()
     ensures { ApplicationsStay }
 {}

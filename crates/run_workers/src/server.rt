@@ -92,6 +92,7 @@ impl Server {
         requires room { room ≤ MAX_PACKETS }
         ensures app { IfOk result (λ s. s.app ≡ app) }
         ensures home { IfOk result (λ s. s.home ≡ home) }
+        ensures start { IfOk result (λ s. s.start ≡ start) }
         ensures hand { IfOk result (λ s. s.hand ≡ None) }
         ensures table { IfOk result (λ s. s.table ≡ cleared flows start true) }
         ensures sent { IfOk result (λ s. s.sent ≡ journal [] room) }

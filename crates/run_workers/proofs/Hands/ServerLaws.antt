@@ -213,6 +213,7 @@ takes_stay about given s t true old new hint_old hint_new x =
     record {
       app = ap (λ (v : Server). v.app) x.same;
       home = ap (λ (v : Server). v.home) x.same;
+      start = ap (λ (v : Server). v.start) x.same;
       room = ap (λ (v : Server). v.sent.room) x.same;
       table = ap (λ (v : BoardSeatView). v.table) x.records.adds
           ∙ ap (λ (v : BoardSeatView). v.table) x.peeks.adds;
@@ -226,6 +227,7 @@ takes_stay about given s t false old new hint_old hint_new x =
     record {
       app = ap (λ (v : Server). v.app) x.same;
       home = ap (λ (v : Server). v.home) x.same;
+      start = ap (λ (v : Server). v.start) x.same;
       room = ap (λ (v : Server). v.sent.room) x.same;
       table = gate_table x.mid new (left_calm about given s t old new hint_old hint_new x)
           ∙ ap (λ (v : BoardSeatView). v.table) x.looks.adds;
@@ -242,6 +244,7 @@ replies_stay given late s t true old new hint_old hint_new x =
     record {
       app = ap (λ (v : Server). v.app) x.same;
       home = ap (λ (v : Server). v.home) x.same;
+      start = ap (λ (v : Server). v.start) x.same;
       room = ap (λ j. j.room) x.notes_sent;
       table = ap (λ (v : BoardSeatView). v.table) x.replies.adds;
       number = ap (λ (v : BoardSeatView). v.number) x.replies.adds;
@@ -252,6 +255,7 @@ replies_stay given late s t false old new hint_old hint_new x =
     record {
       app = ap (λ (v : Server). v.app) x.same;
       home = ap (λ (v : Server). v.home) x.same;
+      start = ap (λ (v : Server). v.start) x.same;
       room = ap (λ (v : Server). v.sent.room) x.same;
       table = gate_table old new (calm_gate old new (without_reasons x.gate));
       number = gate_number old new (calm_gate old new (without_reasons x.gate));

@@ -103,12 +103,13 @@ PollsStay =
     → Polls given filters p q old new hint_old hint_new
     → Stays p q old new hint_old hint_new
 
--- What a call of an application leaves as it was: which it is and its home, the room for replies,
--- and the tables and numbers of the seats.
+-- What a call of an application leaves as it was: which it is and its home, the number from which
+-- it counts, the room for replies, and the tables and numbers of the seats.
 pub record StaysApplication (s t : Server) (old new : BoardSeatView)
     (hint_old hint_new : SeatView HintStep) : Type 0 where
   pub app : t.app ≡ s.app
   pub home : t.home ≡ s.home
+  pub start : t.start ≡ s.start
   pub room : t.sent.room ≡ s.sent.room
   pub table : new.table ≡ old.table
   pub number : new.number ≡ old.number

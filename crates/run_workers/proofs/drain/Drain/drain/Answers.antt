@@ -13,6 +13,18 @@ serves_both : (l i k : ℕ) (a b c d : BoardSeatView) → Serves (this_lane l) a
 serves_both l i k a b c d s same t other u =
     serves_on l k a c d (serves_on l i a b c s same t) (other ∙ same) u
 
+-- what a drain keeps that has another hand, or has retired more
+stays_at : (d e : Drain) → e ≡ record d { hand = e.hand; retired = e.retired }
+    → (e.lane ≡ d.lane) × (e.exit ≡ d.exit) × (e.start ≡ d.start)
+stays_at d e same = (
+  ap (λ (x : Drain). x.lane) same,
+  ap (λ (x : Drain). x.exit) same,
+  ap (λ (x : Drain). x.start) same,
+)
+
+start_filled : (d e : Drain) → e ≡ record d { hand = e.hand } → e.start ≡ d.start
+start_filled d e same = ap (λ (x : Drain). x.start) same
+
 pub returns-in_default-clause-serves : goal.returns-in_default-clause-serves
 returns-in_default-clause-serves g c =
     serves_on c.args.self.now.lane c.loop-round.self.lane c.args.seat.now c.loop-round.seat
@@ -38,12 +50,37 @@ returns-then-not-delivered-clause-stops g c =
     stopped_later (g.B.Board.view c.args.board.now).sizes c.args.given.now
     c.deliver-delivered.new.self c.args.self.now.lane c.args.seat.now c.fill-pulled.new.seat
     c.deliver-delivered.new.seat
-    (c.deliver-delivered.ensures.lane
+    ((stays_at c.fill-pulled.new.self c.deliver-delivered.new.self
+    c.deliver-delivered.ensures.same).0
     ∙ (c.fill-pulled.ensures.lane ∙ c.loop-round.invariant.lane))
     (serves_on c.args.self.now.lane c.loop-round.self.lane c.args.seat.now c.loop-round.seat
     c.fill-pulled.new.seat c.loop-round.invariant.serves c.loop-round.invariant.lane
     c.fill-pulled.ensures.serves)
     (c.if-not-delivered.ensures.stops refl)
+
+pub returns-in_default-clause-start : goal.returns-in_default-clause-start
+returns-in_default-clause-start g c =
+    start_filled c.loop-round.self c.fill-pulled.new.self c.fill-pulled.ensures.same
+    ∙ c.loop-round.invariant.start
+
+pub returns-then-not-delivered-clause-lane : goal.returns-then-not-delivered-clause-lane
+returns-then-not-delivered-clause-lane g c =
+    (stays_at c.fill-pulled.new.self c.deliver-delivered.new.self
+    c.deliver-delivered.ensures.same).0
+    ∙ (c.fill-pulled.ensures.lane ∙ c.loop-round.invariant.lane)
+
+pub returns-then-not-delivered-clause-exit : goal.returns-then-not-delivered-clause-exit
+returns-then-not-delivered-clause-exit g c =
+    (stays_at c.fill-pulled.new.self c.deliver-delivered.new.self
+    c.deliver-delivered.ensures.same).1
+    ∙ (c.fill-pulled.ensures.exit ∙ c.loop-round.invariant.exit)
+
+pub returns-then-not-delivered-clause-start : goal.returns-then-not-delivered-clause-start
+returns-then-not-delivered-clause-start g c =
+    (stays_at c.fill-pulled.new.self c.deliver-delivered.new.self
+    c.deliver-delivered.ensures.same).2
+    ∙ (start_filled c.loop-round.self c.fill-pulled.new.self c.fill-pulled.ensures.same
+    ∙ c.loop-round.invariant.start)
 
 pub loop-round-preserved : goal.loop-round-preserved
 loop-round-preserved g c =
@@ -52,6 +89,9 @@ loop-round-preserved g c =
     let more =
     delivered_more c.fill-pulled.new.self c.deliver-delivered.new.self c.in-Some.id c.in-Some.is
     c.if-not-delivered.ensures.did in
+    let kept =
+    stays_at c.fill-pulled.new.self c.deliver-delivered.new.self
+    c.deliver-delivered.ensures.same in
     record {
       is = c.deliver-delivered.ensures.is;
       serves = serves_both c.args.self.now.lane c.loop-round.self.lane
@@ -59,10 +99,13 @@ loop-round-preserved g c =
           c.deliver-delivered.new.seat c.loop-round.invariant.serves
           c.loop-round.invariant.lane c.fill-pulled.ensures.serves c.fill-pulled.ensures.lane
           c.deliver-delivered.ensures.serves;
-      lane = c.deliver-delivered.ensures.lane
+      lane = kept.0
           ∙ (c.fill-pulled.ensures.lane ∙ c.loop-round.invariant.lane);
-      exit = c.deliver-delivered.ensures.exit
+      exit = kept.1
           ∙ (c.fill-pulled.ensures.exit ∙ c.loop-round.invariant.exit);
+      start = kept.2
+          ∙ (start_filled c.loop-round.self c.fill-pulled.new.self c.fill-pulled.ensures.same
+          ∙ c.loop-round.invariant.start);
       did = moves_both c.args.self.now c.fill-pulled.new.self c.deliver-delivered.new.self
           (c.loop-round.did || c.fill-pulled.result) c.deliver-delivered.result
           (moves_both c.args.self.now c.loop-round.self c.fill-pulled.new.self c.loop-round.did

@@ -9,6 +9,7 @@ invariant-loop-round g l = record {
   serves : Serves (this_lane l.fn.self.lane) l.fn.seat l.seat;
   lane : l.self.lane ≡ l.fn.self.lane;
   exit : l.self.exit ≡ l.fn.self.exit;
+  start : l.self.start ≡ l.fn.self.start;
   did : Moves l.fn.self l.self l.did;
   rounds : l.round ≤ l.self.retired;
 }

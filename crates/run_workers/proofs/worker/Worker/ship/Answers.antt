@@ -27,7 +27,8 @@ returns g c =
     record {
       goes = ship_goes_on _ c.args.self.now _ c.args.seats.now _ refl refl refl c.requires.is
           c.args.i c.index_mut.result.now c.drain.new.self refl refl refl there
-          c.drain.ensures.serves c.drain.ensures.is c.drain.ensures.lane c.drain.ensures.exit;
+          c.drain.ensures.serves c.drain.ensures.is c.drain.ensures.lane c.drain.ensures.exit
+          c.drain.ensures.start;
       one = record {
         x = c.index_mut.result.now;
         y = c.drain.new.self;
