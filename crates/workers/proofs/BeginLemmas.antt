@@ -133,10 +133,11 @@ module _ (settings : BoardsHaveSettings) (back : ReadBack) (begins : WorkersBegi
         ∙ (nat.add-mul-mod_self_left w (length crew) k ∙ (nat.mod-eq_of_lt less ∙ sym same)))
 
     new_drains : (exit : Exit) (kind : Seated → List Drain) (flat : List Drain)
-        → AreDealt flat (map kind crew) → Each (IsFirstDrain exit) flat
-        → length flat ≡ about.lanes → (w : ℕ) (x : Seated) → slice_get crew w ≡ Some x
+        → AreDealt flat (map kind crew) → Each (IsFirstDrain exit plan.start) flat
+        → length flat ≡ about.lanes → about.start ≡ plan.start
+        → (w : ℕ) (x : Seated) → slice_get crew w ≡ Some x
         → (number : ℕ) → number ≡ w → Each (IsNewDrain about t.shared.given exit number) (kind x)
-    new_drains exit kind flat dealt each lanes w x got number same k d has =
+    new_drains exit kind flat dealt each lanes starts w x got number same k d has =
         let less = slice_get_within crew w x got in
         let there = dealt_at kind flat crew some dealt w k x d got less has in
         let f = each (w + length crew * k) d there in
@@ -147,7 +148,8 @@ module _ (settings : BoardsHaveSettings) (back : ReadBack) (begins : WorkersBegi
           within = omega (arith, below, lane, lanes);
           mine = pulls w k d.lane number less lane same;
           exit_is = f.exit_is;
-          is = drain_is exit (w + length crew * k) d t.shared.given f;
+          start = f.start ∙ sym starts;
+          is = drain_is exit plan.start (w + length crew * k) d t.shared.given f;
         }
 
   -- ---- pollers
@@ -221,6 +223,7 @@ module _ (settings : BoardsHaveSettings) (back : ReadBack) (begins : WorkersBegi
             (ap (λ (q : Seats). q.tx.number) (at_seats w x got));
         within = omega (arith, below, app, many, outs);
         room = ap (λ (j : Journal Sent). j.room) f.sent ∙ sym room;
+        start = f.start ∙ sym start;
         is = f.is t.shared.given flows_below;
         hand = f.hand;
         table =
@@ -257,13 +260,13 @@ module _ (settings : BoardsHaveSettings) (back : ReadBack) (begins : WorkersBegi
         pollers = new_pollers w x got;
         drains =
             new_drains t.rx.sizes rx_seats Inboxes drains_of actors.drains.items crewed.drains
-            first.drains rx_lanes w x got x.seats.rx.number
+            first.drains rx_lanes start w x got x.seats.rx.number
             (ap (λ (q : Seats). q.rx.number) at);
         servers = new_servers w x got;
         ships =
             new_drains t.tx.sizes tx_seats Port ships_of actors.ships.items crewed.ships
-            first.ships tx_lanes w x got x.seats.tx.number
-            (ap (λ (q : Seats). q.tx.number) at);
+            first.ships tx_lanes (ap (λ (b : BoardSizes). b.start) boards.tx) w x got
+            x.seats.tx.number (ap (λ (q : Seats). q.tx.number) at);
       }
 
   all_work : AreWorking t crew (length plan.queues) (length plan.apps)

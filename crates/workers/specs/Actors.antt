@@ -43,18 +43,20 @@ pub record IsFirstPoller (plan : Plan) (room q : ℕ) (p : Poller) : Type 0 wher
   pub accepted : p.accepted ≡ 0
   pub is : (cpus : ℕ) → IsPoller cpus p
 
--- What empties the lane l to this exit, and has pulled nothing.
-pub record IsFirstDrain (exit : Exit) (l : ℕ) (d : Drain) : Type 0 where
+-- What empties the lane l to this exit, counts from this number, and has pulled nothing.
+pub record IsFirstDrain (exit : Exit) (initial l : ℕ) (d : Drain) : Type 0 where
   pub lane : d.lane ≡ l
   pub exit_is : d.exit ≡ exit
   pub hand : d.hand ≡ None
   pub retired : d.retired ≡ 0
+  pub start : d.start ≡ initial
 
--- Application a, which stands where the plan says and has taken nothing, with room for so many
--- packets of so many flows.
+-- Application a, which stands where the plan says, counts from the plan's start, and has taken
+-- nothing, with room for so many packets of so many flows.
 pub record IsFirstServer (plan : Plan) (room flows a : ℕ) (v : Server) : Type 0 where
   pub app : v.app ≡ a
   pub home : slice_get plan.apps a ≡ Some v.home
+  pub start : v.start ≡ plan.start
   pub hand : v.hand ≡ None
   pub table : v.table ≡ cleared flows plan.start true
   pub sent : v.sent ≡ journal [] room
@@ -68,11 +70,11 @@ pub record AreFirst (plan : Plan) (packets : List Packet) (a : Actors) : Type 0 
   pub queues : length a.pollers.items ≡ length plan.queues
   pub pollers : Each (IsFirstPoller plan (length packets)) a.pollers.items
   pub cpus : length a.drains.items ≡ plan.cpus
-  pub drains : Each (IsFirstDrain Inboxes) a.drains.items
+  pub drains : Each (IsFirstDrain Inboxes plan.start) a.drains.items
   pub apps : length a.servers.items ≡ length plan.apps
   pub servers : Each (IsFirstServer plan (length packets) (flow_count packets)) a.servers.items
   pub txs : length a.ships.items ≡ length plan.tx
-  pub ships : Each (IsFirstDrain Port) a.ships.items
+  pub ships : Each (IsFirstDrain Port plan.start) a.ships.items
 
 -- There is a ring for each poller, with room for so many packets, to which nothing was given.
 pub record ArePaired (room : ℕ) (rings : List RingEnd) (pollers : List Poller) : Type 0 where

@@ -77,13 +77,13 @@ fn queues(alloc: Global, plan: &Plan, room: u32) -> Result<(Rings, Vec<Poller>),
 // What empties so many lanes, whose counters start at the number `start`.
 fn drains(alloc: Global, lanes: u8, exit: Exit, start: u32) -> Result<Vec<Drain>, OutOfMemory>
     ensures count { IfOk result (λ all. length all.items ≡ lanes) }
-    ensures first { IfOk result (λ all. Each (IsFirstDrain exit) all.items) }
+    ensures first { IfOk result (λ all. Each (IsFirstDrain exit start) all.items) }
 {
     Ok(
         (0..lanes)
             .map(
                 |lane|
-                    ensures { IsFirstDrain exit lane result }
+                    ensures { IsFirstDrain exit start lane result }
                 { Drain::new(lane, exit, start) },
             )
             .collect(alloc)?,

@@ -36,6 +36,7 @@ loop-app-preserved c =
           (record {
             app = m.app;
             home = there ∙ ap Some (sym m.home);
+            start = m.start;
             hand = m.hand;
             table = m.table;
             sent = m.sent;
