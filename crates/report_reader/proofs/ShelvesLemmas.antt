@@ -1,11 +1,11 @@
 -- Lists that are filled by places.
 use Rattle.std.proofs.Common.{ℕ, zero, suc, ◌≡◌, ◌≢◌, ◌≤◌, ◌<◌, ◌+◌, ◌-◌, ◌⊎◌, List, [], ◌∷◌}
 use Rattle.std.proofs.Common.{Option, Some, None, length, refl, ap, ◌∙◌, sym, arith, get_or, subst}
-use Rattle.std.proofs.Common.{inl, inr, true, false}
+use Rattle.std.proofs.Common.{inl, inr, map, true, false}
 use Rattle.std.specs.Prelude.{Bool, slice_set, nat_lt}
 use Rattle.std.specs.Option.{option_map}
 use Rattle.std.proofs.lemmas.Bool.{cases_eq, cases_lt, lt-ltb, le-ltb}
-use Rattle.std.proofs.lemmas.List.{get_or-set_same, get_or-set_other, length-set}
+use Rattle.std.proofs.lemmas.List.{get_or-map, get_or-set_same, get_or-set_other, length-set}
 use Rattle.steer_base.specs.Entries.{place_in}
 use Rattle.history.specs.Finding.{Once}
 use Rattle.history.proofs.SamePlaces.{Once-head, Once-tail, map_some, place-here, place-past}
@@ -13,6 +13,7 @@ use Rattle.history.proofs.SamePlaces.{same_lists, some_same}
 use Rattle.report_reader.specs.Slots.{IsShelved, place_for, slot_of}
 use Rattle.report_reader.specs.declared.slots.Kind.{Kind}
 use Rattle.report_reader.specs.declared.slots.Seen.{Seen}
+use Rattle.report_reader.specs.declared.slots.Slot.{Slot}
 
 at-back : (x : ℕ) (xs : List ℕ) (m n : ℕ) → m ≡ n → get_or xs m 0 ≡ x → get_or xs n 0 ≡ x
 at-back x xs m n e h = subst (λ k. get_or xs k 0 ≡ x) e h
@@ -217,3 +218,17 @@ module _ (start : ℕ) (kind : Kind) (seen : List Seen) (number : ℕ) (list : L
     | inr z ↦
         subst (λ w. IsUpTo (x + 1) w list) (sym (same z)) (up-lacks x old list (at-x o e ∙ z) u)
   ]
+
+-- the lines of a packet
+pub line-at : (seen : List Seen) (x : ℕ) → x < length seen → (v : Seen) × (get_or seen x v ≡ v)
+line-at [] x l = absurd (omega (arith, l))
+line-at (v ∷ vs) zero l = (v, refl)
+line-at (v ∷ vs) (suc x) l = line-at vs x (omega (arith, l))
+
+-- where a packet stands is where its lines show it
+pub slot-at : (start : ℕ) (kind : Kind) (seen : List Seen) (slots : List (Option Slot)) (x : ℕ)
+    (v : Seen) (slot d : Option Slot) → slots ≡ map (slot_of start kind) seen → x < length seen
+    → get_or seen x v ≡ v → slot ≡ get_or slots x d → slot ≡ slot_of start kind v
+slot-at start kind seen slots x v slot d e l is at =
+    at ∙ ap (λ all. get_or all x d) e ∙ get_or-map (slot_of start kind) seen x v d l
+    ∙ ap (slot_of start kind) is

@@ -1,10 +1,12 @@
 //! Lists of packets that are filled by their places.
 ghost use Rattle.std.specs.Prelude.{ℕ, ◌≡◌, ◌≤◌, ◌<◌, ◌-◌, ◌+◌, List, Some, IfOk, length};
-ghost use Rattle.std.specs.Prelude.{slice_index_or, slice_set};
+ghost use Rattle.std.specs.Prelude.{map, slice_index_or, slice_set};
 ghost use Rattle.steer_base.specs.declared.limits.TheConstants.{MAX_PACKETS};
 ghost use Rattle.history.specs.Lists.{list_at};
-ghost use Rattle.report_reader.specs.Slots.{IsShelved, one_at, place_for};
+ghost use Rattle.report_reader.specs.Slots.{IsShelved, one_at, place_for, slot_of};
 ghost use Rattle.report_reader.specs.declared.shelf.TheConstants.{LISTS};
+ghost use Rattle.report_reader.specs.declared.slots.Kind.{Kind as AKind};
+ghost use Rattle.report_reader.specs.declared.slots.Seen.{Seen as SeenLines};
 
 use crate::slots::{Kind, Seen, Slot, slot_of_kind};
 use std::alloc::Global;
@@ -27,17 +29,35 @@ fn count_one(counts: &mut Vec<u32>, slot: Option<Slot>)
     }
 }
 
+// Where each packet stands among the lists of a kind.
+fn slots(
+    alloc: Global,
+    seen: &[Seen],
+    kind: Kind,
+    start: u32,
+) -> Result<Vec<Option<Slot>>, OutOfMemory>
+    ensures { IfOk result (λ slots. slots.items ≡ map (slot_of start kind) seen.now) }
+{
+    let mut slots = Vec::with_capacity(alloc, seen.len())?;
+    for line in seen {
+        slots.push(slot_of_kind(line, kind, start))?;
+    }
+    Ok(slots)
+}
+
 // How many packets stand in each list of a kind.
-fn counts(alloc: Global, seen: &[Seen], kind: Kind, start: u32) -> Result<Vec<u32>, OutOfMemory>
-    requires { length seen.now ≤ MAX_PACKETS }
-    ensures { IfOk result (λ counts. (n : ℕ) (wanted : List ℕ)
-        → IsShelved start kind seen.now n wanted
+fn counts(alloc: Global, slots: &[Option<Slot>]) -> Result<Vec<u32>, OutOfMemory>
+    requires { length slots.now ≤ MAX_PACKETS }
+    ensures { IfOk result (λ counts. (start : ℕ) (kind : AKind) (seen : List SeenLines)
+        (n : ℕ) (wanted : List ℕ) → slots.now ≡ map (slot_of start kind) seen
+        → IsShelved start kind seen n wanted
         → slice_index_or counts.items n 0 ≡ length wanted) }
 {
     let mut counts = Vec::new(alloc);
     counts.resize(LISTS, 0)?;
-    for x in 0..seen.len() {
-        count_one(&mut counts, slot_of_kind(&seen[x], kind, start));
+    for x in 0..slots.len() {
+        let slot = slots[x];
+        count_one(&mut counts, slot);
     }
     Ok(counts)
 }
@@ -130,7 +150,7 @@ impl Places {
     }
 }
 
-/// The lists of a kind with the numbers below `count`, in two walks over the packets: each packet
+/// The lists of a kind with the numbers below `count`, in one walk over the packets: each packet
 /// stands at its place. The memory of each list is allocated once.
 pub fn shelves(
     alloc: Global,
@@ -144,10 +164,12 @@ pub fn shelves(
     ensures each { IfOk result (λ v. (n : ℕ) (wanted : List ℕ) → n < count
         → IsShelved start kind seen.now n wanted → list_at v.items n ≡ wanted) }
 {
-    let counts = counts(alloc, seen, kind, start)?;
+    let slots = slots(alloc, seen, kind, start)?;
+    let counts = counts(alloc, &slots)?;
     let mut shelves = Places::make(alloc, count, &counts)?;
-    for x in 0..seen.len() {
-        shelves.put(slot_of_kind(&seen[x], kind, start), PacketId(x as u32));
+    for x in 0..slots.len() {
+        let slot = slots[x];
+        shelves.put(slot, PacketId(x as u32));
     }
     let lists = shelves.into_lists(alloc)?;
     Ok(lists)

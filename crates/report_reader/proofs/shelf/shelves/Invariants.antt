@@ -7,6 +7,6 @@ use Rattle.report_reader.proofs.shelf.shelves.Given as goal
 abbrev pub invariant-loop-x : goal.invariant-loop-x
 invariant-loop-x l = record {
   lists : length l.shelves ≡ l.count;
-  up : (n : ℕ) (wanted : List ℕ) → n < l.count → IsShelved l.start l.kind l.seen n wanted
+  up : (n : ℕ) (wanted : List ℕ) → n < l.count → IsShelved l.fn.start l.fn.kind l.fn.seen n wanted
       → IsUpTo l.x (list_at l.shelves n) wanted;
 }
