@@ -1,4 +1,4 @@
--- What a machine leaves and what it keeps have the same history.
+-- What a hop leaves is what the history has of it.
 use Rattle.std.proofs.Common.{◌≡◌, ◌∙◌, length, map, refl, ap}
 use Rattle.std.specs.List.{range_with_len}
 use mathlib.Core.List.{map-map}
@@ -6,13 +6,23 @@ use Rattle.hop_core.specs.Hop.{Bare, HopState}
 use Rattle.hop_core.specs.Left.{left_lane, left_lanes}
 use Rattle.hop_core.specs.declared.left.HopLists.{HopLists}
 use Rattle.steer_model.specs.State.Machine.{history_lanes}
-use Rattle.steer_core.specs.Kept.{kept_history}
-use Rattle.steer_core.specs.Moves.{kept_lane, left_history}
-use Rattle.steer_core.specs.declared.kept.Kept.{Kept}
-use Rattle.steer_core.specs.declared.leaving.Leaving.{Leaving}
+use Rattle.steer_core.specs.HistoryParts.{hop_part}
+use Rattle.steer_core.specs.Kept.{kept_lane}
+use Rattle.steer_core.specs.declared.parts.HopPart.{HopPart}
 
 kept-lanes : (b : Bare) → map kept_lane (left_lanes b) ≡ history_lanes b
 kept-lanes b = map-map kept_lane (left_lane b) (range_with_len 0 (length b.accepted))
+
+-- the history's part of what a hop leaves
+abbrev pub left_part : HopLists → HopPart
+left_part lists =
+    record {
+      taken = lists.taken.items;
+      choices = map (λ list. list.items) lists.choices.items;
+      lanes = map kept_lane lists.lanes.items;
+      outs = map (λ list. list.items) lists.outs.items;
+      start = lists.start;
+    }
 
 -- What a hop leaves is what it kept.
 pub record AreLeft (s : HopState) (lists : HopLists) : Type 0 where
@@ -22,31 +32,14 @@ pub record AreLeft (s : HopState) (lists : HopLists) : Type 0 where
   pub outs : map (λ list. list.items) lists.outs.items ≡ s.bare.outs
   pub start : lists.start ≡ s.fixed.start
 
--- The lists beside the hops are left as they were kept.
-pub record AreLeftBeside (kept : Kept) (left : Leaving) : Type 0 where
-  pub total : left.total ≡ length kept.given.packets
-  pub cut : left.cut ≡ kept.given.cut
-  pub arrivals : left.arrivals.items ≡ kept.arrivals.items
-  pub sent : map (λ list. list.items) left.sent.items ≡ kept.sent.lists
-  pub writes : map (λ list. list.items) left.writes.items ≡ kept.writes.lists
-  pub commands : left.commands.items ≡ kept.commands.items
-
-pub left-as-kept : (kept : Kept) (left : Leaving) → AreLeft kept.rx left.rx
-    → AreLeft kept.tx left.tx → AreLeftBeside kept left → left_history left ≡ kept_history kept
-left-as-kept kept left rx tx beside =
+-- What a hop leaves is the history's part of it.
+pub left-part : (s : HopState) (lists : HopLists) → AreLeft s lists
+    → left_part lists ≡ hop_part s
+left-part s lists left =
     rw (
-      beside.total,
-      beside.cut,
-      beside.arrivals,
-      rx.taken,
-      rx.choices,
-      ap (map kept_lane) rx.lanes ∙ kept-lanes kept.rx.bare,
-      rx.outs,
-      beside.sent,
-      tx.choices,
-      ap (map kept_lane) tx.lanes ∙ kept-lanes kept.tx.bare,
-      tx.outs,
-      beside.writes,
-      beside.commands,
-      rx.start,
+      left.taken,
+      left.choices,
+      ap (map kept_lane) left.lanes ∙ kept-lanes s.bare,
+      left.outs,
+      left.start,
     ) refl

@@ -2,8 +2,8 @@ pub mod Running
 pub mod Rooms
 pub mod Changes
 pub mod Weighings
+pub mod HistoryParts
 pub mod Kept
-pub mod Moves
 pub mod OldFilters
 pub mod Starting
 pub mod Resting

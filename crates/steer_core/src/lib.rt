@@ -4,7 +4,7 @@
 
 mod actors;
 mod kept;
-mod leaving;
+mod parts;
 mod steering;
 
 pub use steering::Steering;

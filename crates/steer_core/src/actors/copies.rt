@@ -1,10 +1,12 @@
 //! The lists of the machine, copied for its history.
 ghost use Rattle.std.specs.Prelude.{◌≡◌, ◌<◌, ◌^◌, IfOk, length};
 ghost use Rattle.hop_core.specs.Hop.{accepted_at};
+ghost use Rattle.steer_core.specs.HistoryParts.{hop_part, machine_beside};
 ghost use Rattle.steer_model.specs.State.Machine.{history_of, lane_list as list_of_lane};
 ghost use Rattle.steer_model.specs.State.Machine.{history_lanes as lists_of_lanes};
 
 use crate::actors::Actors;
+use crate::parts::{BesidePart, HistoryParts, HopPart};
 use history::{History, LaneList};
 use hop_core::Hop;
 use std::alloc::Global;
@@ -15,21 +17,66 @@ impl Actors {
     pub fn history(&self, alloc: Global) -> Result<History, OutOfMemory>
         ensures { IfOk result (λ history. history ≡ history_of self.now.machine) }
     {
-        Ok(History {
+        let rx = self.receive_part(alloc)?;
+        let tx = self.transmit_part(alloc)?;
+        let beside = self.beside_part(alloc)?;
+        let parts = HistoryParts {
             total: self.given.packet_count(),
             cut: self.given.cut(),
-            arrivals: copied(alloc, self.arrivals.as_slice())?,
-            taken: taken_counts(alloc, &self.rx, self.given.queues())?,
-            choices: choice_lists(alloc, &self.rx, self.given.queues())?,
-            lanes: lane_lists(alloc, &self.rx, self.given.cpus())?,
-            inboxes: out_lists(alloc, &self.rx, self.given.apps())?,
-            sent: copied_all(alloc, &self.sent)?,
-            tx_choices: choice_lists(alloc, &self.tx, self.given.apps())?,
-            tx_lanes: lane_lists(alloc, &self.tx, self.given.txs())?,
-            port: copied(alloc, self.tx.out(0))?,
-            writes: copied_all(alloc, &self.writes)?,
-            commands: copied(alloc, self.commands.as_slice())?,
+            rx,
+            tx,
+            beside,
+        };
+        Ok(parts.joined())
+    }
+
+    // What the history has of the receive hop.
+    fn receive_part(&self, alloc: Global) -> Result<HopPart, OutOfMemory>
+        ensures { IfOk result (λ part. part ≡ hop_part self.now.machine.rx) }
+    {
+        let taken = taken_counts(alloc, &self.rx, self.given.queues())?;
+        let choices = choice_lists(alloc, &self.rx, self.given.queues())?;
+        let lanes = lane_lists(alloc, &self.rx, self.given.cpus())?;
+        let outs = out_lists(alloc, &self.rx, self.given.apps())?;
+        Ok(HopPart {
+            taken,
+            choices,
+            lanes,
+            outs,
             start: start_of(&self.rx),
+        })
+    }
+
+    // What the history has of the transmit hop.
+    fn transmit_part(&self, alloc: Global) -> Result<HopPart, OutOfMemory>
+        ensures { IfOk result (λ part. part ≡ hop_part self.now.machine.tx) }
+    {
+        let taken = taken_counts(alloc, &self.tx, self.given.apps())?;
+        let choices = choice_lists(alloc, &self.tx, self.given.apps())?;
+        let lanes = lane_lists(alloc, &self.tx, self.given.txs())?;
+        let outs = out_lists(alloc, &self.tx, 1)?;
+        Ok(HopPart {
+            taken,
+            choices,
+            lanes,
+            outs,
+            start: start_of(&self.tx),
+        })
+    }
+
+    // What the history has beside the hops.
+    fn beside_part(&self, alloc: Global) -> Result<BesidePart, OutOfMemory>
+        ensures { IfOk result (λ part. part ≡ machine_beside self.now.machine) }
+    {
+        let arrivals = copied(alloc, self.arrivals.as_slice())?;
+        let sent = copied_all(alloc, &self.sent)?;
+        let writes = copied_all(alloc, &self.writes)?;
+        let commands = copied(alloc, self.commands.as_slice())?;
+        Ok(BesidePart {
+            arrivals,
+            sent,
+            writes,
+            commands,
         })
     }
 }

@@ -4,7 +4,7 @@ ghost use Rattle.steer_core.specs.Kept.{kept_history};
 ghost use Rattle.steer_model.specs.State.Machine.{history_of};
 
 use crate::actors::Actors;
-use crate::kept::{Kept, history_from};
+use crate::kept::{Beside, Kept, history_from};
 use history::History;
 use std::alloc::Global;
 use steer_base::OutOfMemory;
@@ -24,8 +24,9 @@ impl Actors {
         ensures history { kept_history result ≡ history_of self.machine }
         ensures port { length result.tx.bare.outs ≡ 1 }
     {
+        let total = self.given.packet_count();
+        let cut = self.given.cut();
         let Actors {
-            given,
             rx,
             tx,
             arrivals,
@@ -34,14 +35,18 @@ impl Actors {
             commands,
             ..
         } = self;
-        Kept {
-            given,
-            rx,
-            tx,
+        let beside = Beside {
             arrivals,
             sent,
             writes,
             commands,
+        };
+        Kept {
+            total,
+            cut,
+            rx,
+            tx,
+            beside,
         }
     }
 }
