@@ -1,13 +1,10 @@
 //! The machine of a plan, with all the memory that its steps take.
-ghost use Rattle.std.specs.Prelude.{◌≡◌, ◌+◌, ◌≤◌, [], IfOk, length, map, replicate};
-ghost use Rattle.accel_filter.specs.Table as table;
-ghost use Rattle.plan_reader.specs.Plans.{step_count};
-ghost use Rattle.sock_flow_table.specs.Sockets as sockets;
+ghost use Rattle.std.specs.Prelude.{◌≡◌, ◌+◌, ◌<◌, ◌≤◌, ◌^◌, [], IfOk, length, map, replicate};
 ghost use Rattle.steer_base.specs.Journals.{journal, new_journals};
 ghost use Rattle.steer_base.specs.declared.limits.TheConstants.{MAX_PACKETS};
-ghost use Rattle.steer_core.specs.Starting.{started};
+ghost use Rattle.steer_core.specs.Starting.{AreEmpty, AreUnset, IsFixed, started};
 ghost use Rattle.steer_model.specs.State.Ranges.{AreOfFlows};
-ghost use Rattle.steer_model.specs.State.Start.{fresh_rx, fresh_tx, initial_settings};
+ghost use Rattle.steer_model.specs.State.Start.{fresh_rx, fresh_tx};
 
 use crate::actors::Actors;
 use accel_filter::FilterTable;
@@ -34,33 +31,85 @@ impl Actors {
     {
         // A read, so that the start is known to be a number of 32 bits.
         let _start = plan.start;
+        let around = Around::make(alloc, plan, packets, cut)?;
+        let hops = Hops::make(alloc, plan, packets)?;
+        let Around {
+            fixed,
+            tables,
+            lists,
+        } = around;
+        Ok(Actors {
+            given: fixed.given,
+            settings: fixed.settings,
+            socket: tables.socket,
+            filters: tables.filters,
+            notes: tables.notes,
+            rx: hops.rx,
+            tx: hops.tx,
+            arrivals: lists.of_packets.arrivals,
+            sent: lists.of_packets.sent,
+            writes: lists.of_steps.writes,
+            commands: lists.of_steps.commands,
+        })
+    }
+}
+
+// What there is beside the hops. The machine is made in parts, so that few lists at a time are
+// given back where memory runs out.
+#[derive(Drop)]
+struct Around {
+    fixed: Fixed,
+    tables: Tables,
+    lists: Lists,
+}
+
+impl Around {
+    // All of it before the first step.
+    fn make(
+        alloc: Global,
+        plan: &Plan,
+        packets: &[Packet],
+        cut: Option<u32>,
+    ) -> Result<Around, OutOfMemory>
+        requires few { length packets.now ≤ MAX_PACKETS }
+        requires flows { AreOfFlows packets.now }
+        ensures fixed { IfOk result (λ around. IsFixed plan.now packets.now cut around.fixed) }
+        ensures tables { IfOk result (λ around. AreUnset plan.now around.tables) }
+        ensures lists { IfOk result (λ around. AreEmpty plan.now packets.now around.lists) }
+    {
+        let fixed = Fixed::make(alloc, plan, packets, cut)?;
+        let tables = Tables::make(alloc, plan)?;
+        let lists = Lists::make(alloc, plan, packets)?;
+        Ok(Around {
+            fixed,
+            tables,
+            lists,
+        })
+    }
+}
+
+// What the plan and the capture fix, and the settings that are in force.
+#[derive(Drop)]
+struct Fixed {
+    given: Given,
+    settings: InForce,
+}
+
+impl Fixed {
+    // Both as the plan has them.
+    fn make(
+        alloc: Global,
+        plan: &Plan,
+        packets: &[Packet],
+        cut: Option<u32>,
+    ) -> Result<Fixed, OutOfMemory>
+        requires few { length packets.now ≤ MAX_PACKETS }
+        requires flows { AreOfFlows packets.now }
+        ensures { IfOk result (IsFixed plan.now packets.now cut) }
+    {
         let given = Given::of_plan(alloc, plan, packets, cut)?;
         let settings = InForce::of_plan(alloc, plan)?;
-        let Tables {
-            socket,
-            filters,
-            notes,
-        } = Tables::make(alloc, plan)?;
-        let Hops { rx, tx } = Hops::make(alloc, plan, packets)?;
-        let Lists {
-            arrivals,
-            sent,
-            writes,
-            commands,
-        } = Lists::make(alloc, plan, packets)?;
-        Ok(Actors {
-            given,
-            settings,
-            socket,
-            filters,
-            notes,
-            rx,
-            tx,
-            arrivals,
-            sent,
-            writes,
-            commands,
-        })
+        Ok(Fixed { given, settings })
     }
 }
 
@@ -75,11 +124,7 @@ struct Tables {
 impl Tables {
     // All of them unset.
     fn make(alloc: Global, plan: &Plan) -> Result<Tables, OutOfMemory>
-        ensures socket { IfOk result (λ tables. tables.socket
-            ≡ sockets.unset (initial_settings plan.now).sock) }
-        ensures filters { IfOk result (λ tables. tables.filters ≡ table.unset plan.now.filters) }
-        ensures notes { IfOk result (λ tables. tables.notes.items
-            ≡ replicate (length plan.now.queues) Note.Nothing) }
+        ensures { IfOk result (AreUnset plan.now) }
     {
         let socket = SockTable::make(alloc, plan.sock)?;
         let filters = FilterTable::make(alloc, plan.filters)?;
@@ -108,6 +153,21 @@ impl Hops {
         ensures tx { IfOk result (λ hops. hops.tx ≡ fresh_tx plan.now packets.now) }
     {
         let rx = receive_hop(alloc, plan, packets)?;
+        Hops::with_receive(rx, alloc, plan, packets)
+    }
+
+    // This receive hop, and an empty transmit hop.
+    fn with_receive(
+        rx: Hop,
+        alloc: Global,
+        plan: &Plan,
+        packets: &[Packet],
+    ) -> Result<Hops, OutOfMemory>
+        requires few { length packets.now ≤ MAX_PACKETS }
+        requires flows { AreOfFlows packets.now }
+        ensures rx { IfOk result (λ hops. hops.rx ≡ rx) }
+        ensures tx { IfOk result (λ hops. hops.tx ≡ fresh_tx plan.now packets.now) }
+    {
         let tx = transmit_hop(alloc, plan, packets)?;
         Ok(Hops { rx, tx })
     }
@@ -116,37 +176,63 @@ impl Hops {
 // What the history keeps beside the hops.
 #[derive(Drop)]
 struct Lists {
-    arrivals: Journal<Arrival>,
-    sent: Journals<Sent>,
-    writes: Journals<SockWrite>,
-    commands: Journal<Commanded>,
+    of_packets: PacketLists,
+    of_steps: StepLists,
 }
 
 impl Lists {
     // Empty lists, with room for all that the plan's steps append.
     fn make(alloc: Global, plan: &Plan, packets: &[Packet]) -> Result<Lists, OutOfMemory>
         requires { length packets.now ≤ MAX_PACKETS }
-        ensures arrivals { IfOk result (λ lists. lists.arrivals ≡ journal [] (length packets.now)) }
-        ensures sent { IfOk result (λ lists. lists.sent
-            ≡ new_journals (length plan.now.apps) (length packets.now)) }
-        ensures writes { IfOk result (λ lists. lists.writes
-            ≡ new_journals (length plan.now.apps) (step_count plan.now + length packets.now)) }
-        ensures commands { IfOk result (λ lists. lists.commands
-            ≡ journal [] (step_count plan.now)) }
+        ensures { IfOk result (AreEmpty plan.now packets.now) }
     {
         let room = packets.len() as u32;
-        let steps = plan.step_count();
         let apps = plan.apps.len() as u8;
+        let of_packets = PacketLists::make(alloc, apps, room)?;
+        let of_steps = StepLists::make(alloc, apps, room, plan.step_count())?;
+        Ok(Lists {
+            of_packets,
+            of_steps,
+        })
+    }
+}
+
+// The arrivals, and the replies of each application.
+#[derive(Drop)]
+struct PacketLists {
+    arrivals: Journal<Arrival>,
+    sent: Journals<Sent>,
+}
+
+impl PacketLists {
+    // Empty lists, with room for each packet.
+    fn make(alloc: Global, apps: u8, room: u32) -> Result<PacketLists, OutOfMemory>
+        ensures arrivals { IfOk result (λ lists. lists.arrivals ≡ journal [] room) }
+        ensures sent { IfOk result (λ lists. lists.sent ≡ new_journals apps room) }
+    {
         let arrivals = Journal::make(alloc, room)?;
         let sent = Journals::make(alloc, apps, room)?;
-        let writes = Journals::make(alloc, apps, steps + room)?;
+        Ok(PacketLists { arrivals, sent })
+    }
+}
+
+// The writes of each application to the socket flow table, and the commands.
+#[derive(Drop)]
+struct StepLists {
+    writes: Journals<SockWrite>,
+    commands: Journal<Commanded>,
+}
+
+impl StepLists {
+    // Empty lists, with room for a command of each step and for a write of each step and packet.
+    fn make(alloc: Global, apps: u8, packets: u32, steps: u32) -> Result<StepLists, OutOfMemory>
+        requires { steps + packets < 2 ^ 32 }
+        ensures writes { IfOk result (λ lists. lists.writes ≡ new_journals apps (steps + packets)) }
+        ensures commands { IfOk result (λ lists. lists.commands ≡ journal [] steps) }
+    {
+        let writes = Journals::make(alloc, apps, steps + packets)?;
         let commands = Journal::make(alloc, steps)?;
-        Ok(Lists {
-            arrivals,
-            sent,
-            writes,
-            commands,
-        })
+        Ok(StepLists { writes, commands })
     }
 }
 

@@ -9,17 +9,17 @@ invariant_of-result c =
     record { start = omega arith; few = c.requires.few; flows = c.requires.flows } in
     (is_made c.args.plan.now c.args.packets.now c.args.cut _ may
     (are_new c.args.plan.now c.args.packets.now c.args.cut _ _ _ _ _ _ _ _ _ _ _
-    c.in_ok-given.ensures
-    c.in_ok-settings.ensures
-    c.in_ok-socket.ensures.socket
-    c.in_ok-socket.ensures.filters
-    c.in_ok-socket.ensures.notes
-    c.in_ok-rx.ensures.rx
-    c.in_ok-rx.ensures.tx
-    c.in_ok-arrivals.ensures.arrivals
-    c.in_ok-arrivals.ensures.sent
-    c.in_ok-arrivals.ensures.writes
-    c.in_ok-arrivals.ensures.commands)).0
+    c.in_ok-around.ensures.fixed.given
+    c.in_ok-around.ensures.fixed.settings
+    c.in_ok-around.ensures.tables.socket
+    c.in_ok-around.ensures.tables.filters
+    c.in_ok-around.ensures.tables.notes
+    c.in_ok-hops.ensures.rx
+    c.in_ok-hops.ensures.tx
+    c.in_ok-around.ensures.lists.arrivals
+    c.in_ok-around.ensures.lists.sent
+    c.in_ok-around.ensures.lists.writes
+    c.in_ok-around.ensures.lists.commands)).0
 
 pub returns : goal.returns
 returns c =
@@ -27,14 +27,14 @@ returns c =
     record { start = omega arith; few = c.requires.few; flows = c.requires.flows } in
     (is_made c.args.plan.now c.args.packets.now c.args.cut _ may
     (are_new c.args.plan.now c.args.packets.now c.args.cut _ _ _ _ _ _ _ _ _ _ _
-    c.in_ok-given.ensures
-    c.in_ok-settings.ensures
-    c.in_ok-socket.ensures.socket
-    c.in_ok-socket.ensures.filters
-    c.in_ok-socket.ensures.notes
-    c.in_ok-rx.ensures.rx
-    c.in_ok-rx.ensures.tx
-    c.in_ok-arrivals.ensures.arrivals
-    c.in_ok-arrivals.ensures.sent
-    c.in_ok-arrivals.ensures.writes
-    c.in_ok-arrivals.ensures.commands)).1
+    c.in_ok-around.ensures.fixed.given
+    c.in_ok-around.ensures.fixed.settings
+    c.in_ok-around.ensures.tables.socket
+    c.in_ok-around.ensures.tables.filters
+    c.in_ok-around.ensures.tables.notes
+    c.in_ok-hops.ensures.rx
+    c.in_ok-hops.ensures.tx
+    c.in_ok-around.ensures.lists.arrivals
+    c.in_ok-around.ensures.lists.sent
+    c.in_ok-around.ensures.lists.writes
+    c.in_ok-around.ensures.lists.commands)).1
