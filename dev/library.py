@@ -22,6 +22,7 @@ LIBRARY = {
     "Items": "the items of a JSON array: `no_items`, or an `item` and then further items",
     "Members": "the members of a JSON object by key, each key once: `no_members`, or a `member` "
                "and then further members",
+    "Snapshot": "a value that clauses read and that takes no memory: its field `value`",
     "after_first": "the items after the first that passes a test; none if no item does",
     "as_array": "the items of a JSON value that is an array",
     "as_number": "the number of a JSON value that is one",
