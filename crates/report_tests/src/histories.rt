@@ -1,6 +1,6 @@
 //! Histories written out by hand, and the lists that they are made of. Each maker ends the test
 //! where there is no memory.
-ghost use Rattle.std.specs.Prelude.{◌≤◌, length};
+ghost use Rattle.std.specs.Prelude.{◌≤◌};
 ghost use Rattle.report.specs.Made.{AreLinesOf};
 
 use history::{Arrival, Commanded, History, LaneList, Lines, Sent, SockWrite};
@@ -460,9 +460,9 @@ pub(crate) fn lines_of<'a>(
     apps: u8,
 ) -> Lines<'a>
     requires apps { 1 ≤ apps }
-    requires few { length packets.now ≤ 262144 }
     ensures { AreLinesOf result h.now }
 {
+    assert!(rt; packets.len() <= 262_144);
     let regular = is_regular(alloc, h, packets, apps).expect(rt, "memory");
     assert!(rt; regular, "the history is regular");
     Lines::make(alloc, h, packets, apps).expect(rt, "memory")

@@ -1,6 +1,6 @@
 //! The lines of a packet and of its reply.
 use crate::equal::same;
-use crate::histories::{PLAIN, classed, lines_of, replied, segment};
+use crate::histories::{PLAIN, classed, lines_of, replied, segments};
 use history::{Lines, PacketLine, Place, ReplyLine, Via};
 use std::alloc::Global;
 use std::process::Abort;
@@ -23,7 +23,7 @@ fn has_reply(rt: &impl Abort, lines: &Lines, reply: ReplyLine) {
 // `start`: both have this position.
 fn has_lines(rt: &impl Abort, alloc: Global, start: u32, position: u32) {
     let h = replied(rt, alloc, start);
-    let packets = [segment()];
+    let packets = segments(rt, alloc, 1);
     let lines = lines_of(rt, alloc, &h, &packets, 1);
     let line = PacketLine {
         id: PacketId(0),

@@ -1,8 +1,8 @@
 //! Which histories are regular.
-ghost use Rattle.std.specs.Prelude.{◌≤◌, length};
+ghost use Rattle.std.specs.Prelude.{◌≤◌};
 
 use crate::histories::{
-    PLAIN, chosen, classed, ids, lane, lanes, none, one, replied, segment, two,
+    PLAIN, chosen, classed, ids, lane, lanes, none, one, replied, segments, two,
 };
 use history::{Commanded, History, LaneList, Sent};
 use history_check::is_regular;
@@ -105,16 +105,16 @@ fn faulty(rt: &impl Abort, alloc: Global, fault: Fault) -> History {
 }
 
 fn has_passed(rt: &impl Abort, alloc: Global, h: &History, packets: &[Packet], apps: u8) -> bool
-    requires apps { 1 ≤ apps }
-    requires few { length packets.now ≤ 262144 }
+    requires { 1 ≤ apps }
 {
+    assert!(rt; packets.len() <= 262_144);
     is_regular(alloc, h, packets, apps).expect(rt, "memory")
 }
 
 #[test]
 fn each_fault_is_irregular(rt: HostRuntime) {
     let alloc = rt.alloc();
-    let packets = [segment()];
+    let packets = segments(&rt, alloc, 1);
     let whole = replied(&rt, alloc, 0);
     assert!(&rt; has_passed(&rt, alloc, &whole, &packets, 1));
     assert!(&rt; !has_passed(&rt, alloc, &whole, &packets, 2));

@@ -1,11 +1,10 @@
 //! Whole reports, by texts that were worked out by hand.
-ghost use Rattle.std.specs.Prelude.{◌≤◌, length};
 ghost use Rattle.report.specs.Made.{AreLinesOf};
 
 use crate::equal::same_items;
 use crate::histories::{
     delivered, filtered, full, lane, limited, lines_of, list, moved, one, other_segment, received,
-    replied, replying, segment, segments, waiting,
+    replied, replying, segments, waiting,
 };
 use history::{Commanded, History, Lines};
 use outside_io::MemorySink;
@@ -36,9 +35,7 @@ fn written(
 }
 
 // The report of a history with one application, without taps, is this text.
-fn reads(rt: &impl Abort, alloc: Global, h: &History, packets: &[Packet], wanted: &[u8])
-    requires few { length packets.now ≤ 262144 }
-{
+fn reads(rt: &impl Abort, alloc: Global, h: &History, packets: &[Packet], wanted: &[u8]) {
     let lines = lines_of(rt, alloc, h, packets, 1);
     let (done, out) = written(rt, alloc, h, &lines, &[], &[]);
     assert!(rt; done);
@@ -66,7 +63,7 @@ end 4 of 4
         &rt,
         alloc,
         &moved(&rt, alloc, 0),
-        &[segment(), segment(), segment(), segment()],
+        &segments(&rt, alloc, 4),
         wanted.as_slice(),
     );
     let wanted = b"steer 1
@@ -90,7 +87,7 @@ end 4 of 4
         &rt,
         alloc,
         &moved(&rt, alloc, 4294967294),
-        &[segment(), segment(), segment(), segment()],
+        &segments(&rt, alloc, 4),
         wanted.as_slice(),
     );
 }
@@ -114,7 +111,7 @@ end 3 of 3
         &rt,
         alloc,
         &full(&rt, alloc),
-        &[segment(), segment(), segment()],
+        &segments(&rt, alloc, 3),
         wanted.as_slice(),
     );
 }
@@ -136,7 +133,7 @@ end 1 of 1
         &rt,
         alloc,
         &delivered(&rt, alloc, 4),
-        &[segment()],
+        &segments(&rt, alloc, 1),
         wanted.as_slice(),
     );
 }
@@ -158,7 +155,7 @@ end 1 of 1
         &rt,
         alloc,
         &replied(&rt, alloc, 0),
-        &[segment()],
+        &segments(&rt, alloc, 1),
         wanted.as_slice(),
     );
     let wanted = b"steer 1
@@ -175,7 +172,7 @@ end 1 of 1
         &rt,
         alloc,
         &replied(&rt, alloc, 4294967295),
-        &[segment()],
+        &segments(&rt, alloc, 1),
         wanted.as_slice(),
     );
 }
@@ -216,7 +213,6 @@ fn the_flow_limit_drops(rt: HostRuntime) {
     let alloc = rt.alloc();
     let mut packets = segments(&rt, alloc, 200);
     packets.push(other_segment()).expect(&rt, "memory");
-    assert!(&rt; packets.len() == 201);
     let wanted = limited_text(alloc).expect(&rt, "memory");
     reads(
         &rt,
@@ -247,7 +243,7 @@ end 5 of 5
         &rt,
         alloc,
         &filtered(&rt, alloc),
-        &[segment(), segment(), segment(), segment(), segment()],
+        &segments(&rt, alloc, 5),
         wanted.as_slice(),
     );
 }
@@ -273,7 +269,7 @@ end 3 of 3
         &rt,
         alloc,
         &replying(&rt, alloc),
-        &[segment(), segment(), segment()],
+        &segments(&rt, alloc, 3),
         wanted.as_slice(),
     );
 }
@@ -367,7 +363,7 @@ fn two_texts(rt: &impl Abort, alloc: Global, lines: &Lines) -> Vec<TapText> {
 fn two_taps_stand_before_the_end(rt: HostRuntime) {
     let alloc = rt.alloc();
     let h = moved(&rt, alloc, 0);
-    let packets = [segment(), segment(), segment(), segment()];
+    let packets = segments(&rt, alloc, 4);
     let lines = lines_of(&rt, alloc, &h, &packets, 1);
     let texts = two_texts(&rt, alloc, &lines);
     let (done, out) = written(&rt, alloc, &h, &lines, &texts, &[]);
@@ -438,7 +434,7 @@ fn goes_out(
 fn a_report_goes_out_line_by_line(rt: HostRuntime) {
     let alloc = rt.alloc();
     let h = moved(&rt, alloc, 0);
-    let packets = [segment(), segment(), segment(), segment()];
+    let packets = segments(&rt, alloc, 4);
     let lines = lines_of(&rt, alloc, &h, &packets, 1);
     let pieces = [
         b"steer 1\n".as_slice(),
@@ -470,7 +466,7 @@ fn a_report_goes_out_line_by_line(rt: HostRuntime) {
 fn each_section_goes_out_line_by_line(rt: HostRuntime) {
     let alloc = rt.alloc();
     let h = waiting(&rt, alloc);
-    let packets = [segment(), segment(), segment()];
+    let packets = segments(&rt, alloc, 3);
     let lines = lines_of(&rt, alloc, &h, &packets, 1);
     let texts = [TapText {
         bytes: Vec::from_slice(alloc, b"flow 0 packets 2\nflow 1 packets 1\n").expect(
