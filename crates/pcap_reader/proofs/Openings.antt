@@ -1,7 +1,7 @@
 -- A file's header, by its place.
-use Rattle.std.proofs.Common.{◌≡◌, ◌≤◌, ℕ, Bool, List, length, take, drop, length-append}
+use Rattle.std.proofs.Common.{◌≡◌, ◌≤◌, ℕ, Bool, List, ◌++◌, length, take, drop, length-append}
 use Rattle.std.proofs.Common.{length-take, sym, ap, ◌∙◌, arith, inl, inr}
-use Rattle.std.proofs.lemmas.List.{take_at, drop_at, take-take, take-append-drop}
+use Rattle.std.proofs.lemmas.List.{take_at, drop_at, take-take, take-append-drop, append_assoc}
 use Rattle.pcap_reader.specs.declared.fault.CaptureFault.{CaptureFault}
 use Rattle.pcap_reader.specs.declared.fault.CaptureFault.TheVariants as fault
 use Rattle.pcap_reader.specs.Numbers.{HasMagic}
@@ -16,6 +16,19 @@ opens_here bytes big nano whole magic = record {
   whole = omega (arith, length-take 24 bytes);
   magic = take-take 4 24 bytes (omega arith) ∙ magic;
 }
+
+-- they are that of all files that begin with these bytes
+pub opens_before : (bytes more : List ℕ) (big nano : Bool) → 24 ≤ length bytes
+    → HasMagic big nano bytes
+    → Opens (bytes ++ more) big nano (take 24 bytes) (drop 24 bytes ++ more)
+opens_before bytes more big nano whole magic =
+    let here = opens_here bytes big nano whole magic in
+    record {
+      joined = ap (λ all. all ++ more) here.joined
+          ∙ append_assoc (take 24 bytes) (drop 24 bytes) more;
+      whole = here.whole;
+      magic = here.magic;
+    }
 
 -- and nothing else is
 pub opens_are : (bytes : List ℕ) (big nano : Bool) (header body : List ℕ)

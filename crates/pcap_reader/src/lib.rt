@@ -3,7 +3,9 @@
 
 mod capture;
 mod fault;
+mod frame_sink;
 mod front;
+mod header;
 mod laws;
 mod limits;
 mod read;
@@ -13,6 +15,9 @@ mod write;
 
 pub use capture::Capture;
 pub use fault::CaptureFault;
+pub use frame_sink::FrameSink;
+pub use front::{Front, RECORD_HEADER};
+pub use header::{FILE_HEADER, Format, read_header};
 pub use laws::{captures_read_back, one_capture_or_fault};
 pub use limits::{LINKTYPE_ETHERNET, MAX_FRAME};
 pub use read::read_capture;
