@@ -1,5 +1,6 @@
 pub mod HashLemmas
 pub mod FlowNumberLemmas
 pub mod PacketLemmas
+pub mod RecordLemmas
 pub mod PlanLemmas
 pub mod FlowLemmas

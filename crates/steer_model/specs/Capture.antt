@@ -2,4 +2,5 @@ pub mod FlowKeys
 pub mod NumberMaps
 pub mod FlowNumbers
 pub mod Packets
+pub mod PacketLists
 pub mod FlowCounts

@@ -28,7 +28,7 @@ pub use laws::{
     steps_of_a_plan_are_within,
 };
 pub use note::Note;
-pub use packet_list::packets;
+pub use packet_list::{PacketList, packets};
 pub use settings::InForce;
 pub use setup::Given;
 pub use turns::{is_idle, is_work};

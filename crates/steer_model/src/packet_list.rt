@@ -1,18 +1,75 @@
 //! The packets of a capture.
-ghost use Rattle.std.specs.Prelude.{◌≤◌, IfOk, length};
+ghost use Rattle.std.specs.Prelude.{◌≡◌, ◌≤◌, ◌<◌, ℕ, List, [], ◌∷◌, ◌++◌, IfOk, OnOk, length, map};
 ghost use Rattle.std.specs.List.{All};
 ghost use Rattle.steer_base.specs.declared.limits.TheConstants.{MAX_PACKETS};
 ghost use Rattle.pcap_reader.specs.Captures.{FrameIsWithin};
 ghost use Rattle.steer_model.specs.State.Ranges.{AreOfFlows};
-ghost use Rattle.steer_model.specs.Capture.Packets.{ArePackets};
+ghost use Rattle.steer_model.specs.Capture.Packets.{ArePackets, ArePacketsOfFrames};
+ghost use Rattle.steer_model.specs.Capture.PacketLists.{IsListOf, Takes};
 
 use crate::flow_numbers::FlowNumbers;
 use flow_dissector::dissect;
-use pcap_reader::Capture;
+use pcap_reader::{Capture, FrameSink};
 use std::alloc::Global;
 use std::snapshot::Snapshot;
 use steer_base::{OutOfMemory, Packet};
 use toeplitz::{Key, Kinds, TabledKey};
+
+/// The packets of frames that are taken one after another. Of each frame it keeps 16 bytes.
+#[derive(Drop)]
+pub struct PacketList {
+    key: TabledKey,
+    kinds: Kinds,
+    numbers: FlowNumbers,
+    packets: Vec<Packet>,
+}
+
+impl PacketList {
+    /// No packets, with memory for so many. Those to come are hashed by the key and the kinds.
+    pub fn make(
+        alloc: Global,
+        key: &Key,
+        kinds: Kinds,
+        room: usize,
+    ) -> Result<PacketList, OutOfMemory>
+        ensures { IfOk result (λ list. IsListOf key.now kinds.0 [] list) }
+    {
+        Ok(PacketList {
+            key: TabledKey::make(alloc, key)?,
+            kinds,
+            numbers: FlowNumbers::new(alloc),
+            packets: Vec::with_capacity(alloc, room)?,
+        })
+    }
+
+    /// The packets of all frames that were taken: of each the flow, the flow's hash by the key and
+    /// the kinds, the length, and the number of the flow, from 0 in order of first appearance.
+    pub fn into_packets(self) -> Vec<Packet>
+        ensures list { (key kinds : ℕ) (frames : List (List ℕ)) → IsListOf key kinds frames self
+            → ArePacketsOfFrames key kinds frames result.items }
+        ensures flows { (key kinds : ℕ) (frames : List (List ℕ)) → IsListOf key kinds frames self
+            → AreOfFlows result.items }
+    {
+        self.packets
+    }
+}
+
+impl FrameSink for PacketList {
+    ghost takes = { Takes };
+
+    /// Appends the packet of a frame.
+    fn take(&mut self, frame: &[u8]) -> Result<(), OutOfMemory> {
+        let flow = dissect(frame);
+        let flow_number = self.numbers.number_of(flow)?;
+        self.packets.push(Packet {
+            flow: Snapshot::of(&flow),
+            hash: self.key.hash(&flow, self.kinds),
+            len: frame.len() as u32,
+            flow_number,
+        })?;
+        Ok(())
+    }
+}
 
 /// The packet of each record of a capture, in order: the flow of its frame, the flow's hash by the
 /// key and the kinds, the length, and the number of the flow, from 0 in order of first appearance.
@@ -30,20 +87,10 @@ pub fn packets(
         ArePackets key.now kinds.0 bytes.now capture.now.records packets.items) }
     ensures flows { IfOk result (λ packets. AreOfFlows packets.items) }
 {
-    let key = TabledKey::make(alloc, key)?;
     let records = capture.records.as_slice();
-    let mut numbers = FlowNumbers::new(alloc);
-    let mut packets = Vec::with_capacity(alloc, records.len())?;
+    let mut packets = PacketList::make(alloc, key, kinds, records.len())?;
     for from in records {
-        let frame = &bytes[from.start..from.start + from.len as usize];
-        let flow = dissect(frame);
-        let flow_number = numbers.number_of(flow)?;
-        packets.push(Packet {
-            flow: Snapshot::of(&flow),
-            hash: key.hash(&flow, kinds),
-            len: from.len,
-            flow_number,
-        })?;
+        packets.take(&bytes[from.start..from.start + from.len as usize])?;
     }
-    Ok(packets)
+    Ok(packets.into_packets())
 }

@@ -1,5 +1,5 @@
 -- The maps from flows to their numbers, and the packets that were numbered by them.
-use Rattle.std.proofs.Common.{ℕ, ◌+◌, ◌<◌, ◌≤◌, ◌≡◌, List, [], ◌∷◌, ◌++◌, Some, None}
+use Rattle.std.proofs.Common.{ℕ, ◌+◌, ◌<◌, ◌≡◌, List, [], ◌∷◌, ◌++◌, Some, None}
 use Rattle.std.proofs.Common.{◌⊎◌, length, ap, ◌∙◌, sym, subst, arith, inl, inr, length-append}
 use Rattle.std.specs.BTreeMap.{is_at}
 use Rattle.std.specs.Map.{lookup}
@@ -12,24 +12,11 @@ use Rattle.steer_base.specs.declared.packet.Packet.{Packet}
 use Rattle.steer_model.specs.Capture.FlowKeys.{FlowFits, key_of}
 use Rattle.steer_model.specs.Capture.FlowNumbers.{IsFresh, IsNumberOf, flow_total, long_order}
 use Rattle.steer_model.specs.Capture.FlowNumbers.{number_at, number_in, short_order}
+use Rattle.steer_model.specs.Capture.PacketLists.{HasNumbers}
 use Rattle.steer_model.specs.Capture.Packets.{AreNumbered}
 use Rattle.steer_model.specs.declared.flow_key.FlowKey.{FlowKey}
 use Rattle.steer_model.specs.declared.flow_key.FlowKey.TheVariants.{Short, Long}
 use Rattle.steer_model.specs.declared.flow_numbers.FlowNumbers.{FlowNumbers}
-
--- The maps have the number of each packet's flow, and every number below their total is one of
--- these.
-pub record HasNumbers (numbers : FlowNumbers) (packets : List Packet) : Type 0 where
-  pub fits : (y : ℕ) → y < length packets → FlowFits (packet_at packets y).flow.value
-  pub has : (y : ℕ) → y < length packets
-      → number_in numbers (packet_at packets y).flow.value ≡ Some (packet_at packets y).flow_number
-  pub from : (flow : Flow) (n : ℕ) → FlowFits flow → number_in numbers flow ≡ Some n
-      → (y : ℕ) × (y < length packets) × ((packet_at packets y).flow.value ≡ flow)
-  pub below : (y : ℕ) → y < length packets → (packet_at packets y).flow_number < flow_total numbers
-  pub every : (n : ℕ) → n < flow_total numbers
-      → (y : ℕ) × (y < length packets) × ((packet_at packets y).flow_number ≡ n)
-  pub few : flow_total numbers ≤ length packets
-  pub numbered : AreNumbered packets
 
 -- a list with a packet more
 pub record IsLonger (packets : List Packet) (x : Packet) (more : List Packet) : Type 0 where

@@ -1,66 +1,82 @@
--- The packets of the first records of a capture, one by one.
-use Rattle.std.proofs.Common.{ℕ, ◌+◌, ◌<◌, ◌≡◌, List, [], ◌∷◌, ◌++◌, Some, length, ap, ◌∙◌, sym}
-use Rattle.std.proofs.Common.{subst, arith, get_or, inl, inr, slice_get, length-append}
+-- The packets of frames, one by one.
+use Rattle.std.proofs.Common.{ℕ, ◌+◌, ◌<◌, ◌≡◌, List, [], ◌∷◌, ◌++◌, length, get_or, ap, ◌∙◌, sym}
+use Rattle.std.proofs.Common.{subst, arith, inl, inr, length-append}
 use Rattle.std.proofs.lemmas.Bool.{cases_lt}
-use Rattle.std.proofs.lemmas.Option.{same_Some, slice_get-get_or, slice_get_within}
+use Rattle.std.proofs.lemmas.List.{get_or_append_left, get_or-append-add}
 use Rattle.history.specs.Lists.{packet_at}
-use Rattle.pcap_reader.specs.declared.record.PcapRecord.{PcapRecord}
 use Rattle.steer_base.specs.declared.packet.Packet.{Packet}
 use Rattle.steer_model.specs.Capture.FlowKeys.{FlowFits}
 use Rattle.steer_model.specs.Capture.FlowNumbers.{IsNumberOf}
-use Rattle.steer_model.specs.Capture.Packets.{ArePackets, IsOfRecord}
-use Rattle.steer_model.specs.declared.flow_numbers.FlowNumbers.{FlowNumbers}
-use Rattle.steer_model.proofs.Capture.FlowNumberLemmas.{HasNumbers, IsLonger, has-more, longer}
+use Rattle.steer_model.specs.Capture.PacketLists.{HasNumbers, IsListOf, Takes}
+use Rattle.steer_model.specs.Capture.Packets.{AreNumbered, ArePacketsOfFrames, IsOfFrame}
+use Rattle.steer_model.specs.declared.packet_list.PacketList.{PacketList}
+use Rattle.steer_model.proofs.Capture.FlowNumberLemmas.{IsLonger, has-more, longer}
 
--- the packets of the first n records, with the maps that number their flows
-pub record AreRead (key kinds : ℕ) (bytes : List ℕ) (records : List PcapRecord) (n : ℕ)
-    (packets : List Packet) (numbers : FlowNumbers) : Type 0 where
-  pub many : length packets ≡ n
-  pub each : (x : ℕ) (from : PcapRecord) → x < n → slice_get records x ≡ Some from
-      → IsOfRecord key kinds bytes from (packet_at packets x)
-  pub numbered : HasNumbers numbers packets
-
-pub read-more : (key kinds : ℕ) (bytes : List ℕ) (records : List PcapRecord) (n : ℕ)
-    (d : PcapRecord)
-    (packets more : List Packet) (x : Packet) (old new : FlowNumbers) → n < length records
-    → AreRead key kinds bytes records n packets old → more ≡ packets ++ x ∷ []
-    → IsOfRecord key kinds bytes (get_or records n d) x
-    → FlowFits x.flow.value → IsNumberOf old new x.flow.value x.flow_number
-    → AreRead key kinds bytes records (n + 1) more new
-read-more key kinds bytes records n d packets more x old new lt read is of fits number =
-    subst (λ ps. AreRead key kinds bytes records (n + 1) ps new) (sym is)
-    (record {
-      many = length-append packets (x ∷ []) ∙ ap (λ k. k + 1) read.many;
+-- the packets of frames, and one more
+pub packets-more : (key kinds : ℕ) (frames : List (List ℕ)) (frame : List ℕ)
+    (packets : List Packet) (x : Packet) → ArePacketsOfFrames key kinds frames packets
+    → IsOfFrame key kinds frame x → AreNumbered (packets ++ x ∷ [])
+    → ArePacketsOfFrames key kinds (frames ++ frame ∷ []) (packets ++ x ∷ [])
+packets-more key kinds frames frame packets x are of numbered =
+    record {
+      many = length-append packets (x ∷ []) ∙ ap (λ k. k + 1) are.many
+          ∙ sym (length-append frames (frame ∷ []));
       each = each;
-      numbered = has-more old new packets x read.numbered fits number;
-    })
+      numbered = numbered;
+    }
   where
-    each : (y : ℕ) (from : PcapRecord) → y < n + 1 → slice_get records y ≡ Some from
-        → IsOfRecord key kinds bytes from (packet_at (packets ++ x ∷ []) y)
-    each y from within there =
+    each : (y : ℕ) → y < length (frames ++ frame ∷ [])
+        → IsOfFrame key kinds (get_or (frames ++ frame ∷ []) y [])
+        (packet_at (packets ++ x ∷ []) y)
+    each y within =
         let l : IsLonger packets x (packets ++ x ∷ []) = longer packets x in
-        elim (cases_lt y n) [
+        elim (cases_lt y (length frames)) [
           | inl before ↦
-              subst (λ p. IsOfRecord key kinds bytes from p)
-              (sym (l.old y (omega (arith, read.many))))
-              (read.each y from before there)
+              subst (λ f. IsOfFrame key kinds f (packet_at (packets ++ x ∷ []) y))
+              (sym (get_or_append_left frames (frame ∷ []) [] y before))
+              (subst (λ p. IsOfFrame key kinds (get_or frames y []) p)
+              (sym (l.old y (omega (arith, are.many, before)))) (are.each y before))
           | inr over ↦ (
-              let at : y ≡ length packets = omega (arith, read.many) in
-              let here : y ≡ n = omega arith in
-              let same : get_or records n d ≡ from =
-              same_Some _ _ (sym (slice_get-get_or records n d lt) ∙ ap (λ k. slice_get records k)
-              (sym here) ∙ there) in
-              subst (λ p. IsOfRecord key kinds bytes from p)
-              (sym (ap (λ k. packet_at (packets ++ x ∷ []) k) at ∙ l.last))
-              (subst (λ r. IsOfRecord key kinds bytes r x) same of))
+              let here : y ≡ length frames = omega (
+                arith,
+                within,
+                length-append frames (frame ∷ []),
+                over,
+              ) in
+              let at : y ≡ length packets = omega (arith, are.many, here) in
+              let last : get_or (frames ++ frame ∷ []) (length frames + 0) [] ≡ frame =
+              get_or-append-add frames (frame ∷ []) 0 [] in
+              let zero : length frames + 0 ≡ y = omega (arith, here) in
+              subst (λ f. IsOfFrame key kinds f (packet_at (packets ++ x ∷ []) y))
+              (sym last ∙ ap (λ n. get_or (frames ++ frame ∷ []) n []) zero)
+              (subst (λ p. IsOfFrame key kinds frame p)
+              (sym (ap (λ k. packet_at (packets ++ x ∷ []) k) at ∙ l.last)) of))
         ]
 
-pub read-all : (key kinds : ℕ) (bytes : List ℕ) (records : List PcapRecord) (packets : List Packet)
-    (numbers : FlowNumbers) → AreRead key kinds bytes records (length records) packets numbers
-    → ArePackets key kinds bytes records packets
-read-all key kinds bytes records packets numbers read =
+-- a list of packets with the packet of one more frame
+pub list-more : (key kinds : ℕ) (frames : List (List ℕ)) (frame : List ℕ) (old new : PacketList)
+    (x : Packet) → IsListOf key kinds frames old
+    → new.key ≡ old.key → new.kinds.0 ≡ old.kinds.0
+    → new.packets.items ≡ old.packets.items ++ x ∷ []
+    → IsOfFrame key kinds frame x → FlowFits x.flow.value
+    → IsNumberOf old.numbers new.numbers x.flow.value x.flow_number
+    → IsListOf key kinds (frames ++ frame ∷ []) new
+list-more key kinds frames frame old new x is same_key same_kinds items of fits number =
+    let numbers = has-more old.numbers new.numbers old.packets.items x is.numbers fits number in
     record {
-      many = read.many;
-      each = λ x from is. read.each x from (slice_get_within records x from is) is;
-      numbered = read.numbered.numbered;
+      key_is = same_key ∙ is.key_is;
+      kinds_are = same_kinds ∙ is.kinds_are;
+      packets = subst (ArePacketsOfFrames key kinds (frames ++ frame ∷ [])) (sym items)
+          (packets-more key kinds frames frame old.packets.items x is.packets of
+          numbers.numbered);
+      numbers = subst (HasNumbers new.numbers) (sym items) numbers;
     }
+
+-- the packets that a list has taken are by the key with which it began
+pub takes-by : (key kinds : ℕ) (first : PacketList) (frames : List (List ℕ)) (list : PacketList)
+    → IsListOf key kinds [] first → Takes first frames list → IsListOf key kinds frames list
+takes-by key kinds first frames list began taken =
+    let same_key : taken.key ≡ key = sym taken.empty.key_is ∙ began.key_is in
+    let same_kinds : taken.kinds ≡ kinds = sym taken.empty.kinds_are ∙ began.kinds_are in
+    subst (λ k. IsListOf k kinds frames list) same_key
+    (subst (λ k. IsListOf taken.key k frames list) same_kinds taken.is)

@@ -1,6 +1,7 @@
 -- The packets of a capture: of each frame its flow, the hash and the number of the flow, and its
 -- length.
-use Rattle.std.specs.Prelude.{ℕ, ◌+◌, ◌<◌, ◌≡◌, List, Some, length, slice_get, slice_range}
+use Rattle.std.specs.Prelude.{ℕ, ◌+◌, ◌<◌, ◌≡◌, List, [], Some, length, get_or, slice_get}
+use Rattle.std.specs.Prelude.{slice_range}
 use Rattle.flow_dissector.specs.Frame.{flow_of}
 use Rattle.history.specs.Lists.{packet_at}
 use Rattle.pcap_reader.specs.declared.record.PcapRecord.{PcapRecord}
@@ -37,4 +38,19 @@ pub record ArePackets (key kinds : ℕ) (bytes : List ℕ) (records : List PcapR
   pub many : length packets ≡ length records
   pub each : (x : ℕ) (from : PcapRecord) → slice_get records x ≡ Some from
       → IsOfRecord key kinds bytes from (packet_at packets x)
+  pub numbered : AreNumbered packets
+
+-- A packet has the flow of a frame, the hash of the flow by the key and its kinds, and the frame's
+-- length.
+pub record IsOfFrame (key kinds : ℕ) (frame : List ℕ) (packet : Packet) : Type 0 where
+  pub flow : packet.flow.value ≡ flow_of frame
+  pub hash : packet.hash ≡ hash_of_flow key packet.flow.value kinds
+  pub len : packet.len ≡ length frame
+
+-- These are the packets of these frames: one for each, in their order.
+pub record ArePacketsOfFrames (key kinds : ℕ) (frames : List (List ℕ)) (packets : List Packet)
+    : Type 0 where
+  pub many : length packets ≡ length frames
+  pub each : (x : ℕ) → x < length frames
+      → IsOfFrame key kinds (get_or frames x []) (packet_at packets x)
   pub numbered : AreNumbered packets

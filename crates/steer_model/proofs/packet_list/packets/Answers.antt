@@ -1,38 +1,61 @@
-use Rattle.std.proofs.Common.{◌≡◌, ◌∙◌, ap, arith, length, refl, subst, sym}
-use Rattle.steer_model.specs.Capture.FlowKeys.{FlowFits}
-use Rattle.steer_model.specs.Capture.FlowNumbers.{IsNumberOf}
-use Rattle.steer_model.specs.Capture.Packets.{ArePackets}
-use Rattle.steer_model.proofs.Capture.PacketLemmas.{packets_are_of_flows}
-use Rattle.steer_model.proofs.Steps.ReadLemmas.{AreRead, read-all, read-more}
+use Rattle.std.proofs.Common.{◌<◌, ◌≡◌, ◌∙◌, ap, arith, length, map, subst, sym}
+use Rattle.steer_model.specs.Capture.PacketLists.{IsListOf}
+use Rattle.steer_model.specs.Capture.Packets.{ArePacketsOfFrames, frame_of}
+use Rattle.steer_model.proofs.Capture.RecordLemmas.{frames-all, frames-many, frames-more}
+use Rattle.steer_model.proofs.Capture.RecordLemmas.{frames_before, packets-of-records}
+use Rattle.steer_model.proofs.Steps.ReadLemmas.{takes-by}
 use Rattle.steer_model.proofs.packet_list.packets.Goals as goal
-use Rattle.toeplitz.specs.Flows.{hash_of_flow}
+
+pub take-requires-clause-room : goal.take-requires-clause-room
+take-requires-clause-room c =
+    let records = c.as_slice-records.result.now in
+    let n = c.loop-from.from-index in
+    let within : n < length records = omega arith in (
+      c.in_ok-packets.packets,
+      frames_before c.args.bytes.now records n,
+      record {
+        key = c.args.key.now;
+        kinds = c.args.kinds.0;
+        empty = c.in_ok-packets.ensures;
+        is = c.loop-from.invariant;
+      },
+      omega (
+        arith,
+        frames-many c.args.bytes.now records n within,
+        within,
+        ap length c.as_slice-records.ensures,
+        c.requires.few,
+      ),
+    )
 
 pub loop-from-preserved : goal.loop-from-preserved
 loop-from-preserved c =
-    let shown = c.of.ensures in
-    let hash =
-    c.hash.ensures
-    ∙ ap (λ key. hash_of_flow key c.dissect-flow.result c.args.kinds.0) c.in_ok-key.ensures
-    ∙ ap (λ f. hash_of_flow c.args.key.now f c.args.kinds.0) (sym shown) in
-    read-more c.args.key.now c.args.kinds.0 c.args.bytes.now c.as_slice-records.result.now
-    c.loop-from.from-index _
-    c.loop-from.packets.items c.push.new.self.items _ c.loop-from.numbers c.number_of.new.self
-    c.loop-from-test.true c.loop-from.invariant c.in_ok-push.ensures.items
-    (record { flow = shown ∙ c.dissect-flow.ensures.flow; hash = hash; len = refl })
-    (subst FlowFits (sym shown) c.number_of.ensures.fits)
-    (subst (λ f. IsNumberOf c.loop-from.numbers c.number_of.new.self f
-    c.in_ok-flow_number.flow_number)
-    (sym shown) c.in_ok-flow_number.ensures.number)
+    let bytes = c.args.bytes.now in
+    let records = c.as_slice-records.result.now in
+    let n = c.loop-from.from-index in
+    let before = frames_before bytes records n in
+    let within : n < length records = omega arith in
+    let taken = c.in_ok-take.ensures c.in_ok-packets.packets before (record {
+      key = c.args.key.now;
+      kinds = c.args.kinds.0;
+      empty = c.in_ok-packets.ensures;
+      is = c.loop-from.invariant;
+    }) in
+    subst (λ frames. IsListOf c.args.key.now c.args.kinds.0 frames c.take.new.self)
+    (sym (frames-more bytes records n _ within))
+    (takes-by c.args.key.now c.args.kinds.0 c.in_ok-packets.packets _ c.take.new.self
+    c.in_ok-packets.ensures taken)
 
-pub returns : goal.returns
-returns c =
-    let all : c.loop-from.from-index ≡ length c.as_slice-records.result.now = omega arith in
-    let list =
-    subst (λ rs. ArePackets c.args.key.now c.args.kinds.0 c.args.bytes.now rs
-    c.loop-from.packets.items)
-    c.as_slice-records.ensures
-    (read-all _ _ _ _ _ _
-    (subst (λ n. AreRead c.args.key.now c.args.kinds.0 c.args.bytes.now
-    c.as_slice-records.result.now n
-    c.loop-from.packets.items c.loop-from.numbers) all c.loop-from.invariant)) in
-    record { list = list; flows = packets_are_of_flows _ _ _ _ _ list }
+pub returns-clause-list : goal.returns-clause-list
+returns-clause-list c =
+    let bytes = c.args.bytes.now in
+    let records = c.as_slice-records.result.now in
+    let all : c.loop-from.from-index ≡ length records = omega arith in
+    let list = c.into_packets.ensures.list c.args.key.now c.args.kinds.0 _ c.loop-from.invariant in
+    let frames = ap (frames_before bytes records) all ∙ frames-all bytes records
+    ∙ ap (map (frame_of bytes)) c.as_slice-records.ensures in
+    packets-of-records c.args.key.now c.args.kinds.0 bytes c.args.capture.now.records
+    c.into_packets.result.items
+    (subst (λ f. ArePacketsOfFrames c.args.key.now c.args.kinds.0 f c.into_packets.result.items)
+    frames list)
+    c.requires.within
