@@ -10,3 +10,5 @@ pub mod Assembled
 pub mod Taken
 pub mod Files
 pub mod Examples
+pub mod Longer
+pub mod Passing

@@ -16,6 +16,7 @@ use Rattle.pcapng_reader.specs.Contents.{least_len, is_len, padded, ethernet_of,
 use Rattle.pcapng_reader.specs.Contents.{simple, content_at}
 use Rattle.pcapng_reader.specs.Blocks.{kind_of, order_of, total_len, tail_len, block_in, ordered}
 use Rattle.pcapng_reader.specs.Blocks.{block_at}
+use Rattle.pcapng_reader.specs.Readers.{HasRoom, BeginsBehind}
 use Rattle.pcapng_reader.proofs.Checks.{taken, passed, and_then_ok}
 
 -- a packet is not one too many, and its frame lies in its block
@@ -23,7 +24,7 @@ abbrev pub PacketFits : Place → ℕ → Content → Type 0
 PacketFits place len (content.Section big) = Unit {0}
 PacketFits place len (content.Interface interface) = Unit {0}
 PacketFits place len (content.Packet r) = (place.packets < 262144)
-    × (r.start + r.len ≤ place.start + len)
+    × (r.start + r.len ≤ place.start + len) × (place.start ≤ r.start) × (r.len ≤ 262144)
 PacketFits place len content.Other = Unit {0}
 
 pub record IsPlaced (place : Place) (rest : List ℕ) (b : Block) : Type 0 where
@@ -46,7 +47,8 @@ framed_fits place len at r c few here h =
     let b = passed (ltb len (at + padded r.len + 4)) _ (Ok (content.Packet r)) c a.1 in
     let room : at + padded r.len + 4 ≤ len = ltb-false len (at + padded r.len + 4) b.0 in
     let is : content.Packet r ≡ c = let e = b.1 in cc in
-    subst (PacketFits place len) is (few, omega arith)
+    let small : r.len ≤ 262144 = ltb-false 262144 r.len a.0 in
+    subst (PacketFits place len) is (few, omega arith, omega arith, small)
 
 enhanced_fits : (section : Section) (place : Place) (len : ℕ) (block : List ℕ) (c : Content)
     → enhanced section place len block ≡ Ok c → PacketFits place len c
@@ -158,3 +160,27 @@ placed section place rest b h = elim (taken (ltb (length rest) 12) (Ok None) _ (
   | inl short ↦ absurd (let e = short.1 in cc)
   | inr long ↦ ordered_placed section place rest (order_of section rest) b long.1
 ]
+
+-- what the walker needs of a block
+begins_in : (place : Place) (size : ℕ) (c : Content) → PacketFits place size c
+    → BeginsBehind place c
+begins_in place size (content.Section big) fits = tt
+begins_in place size (content.Interface i) fits = tt
+begins_in place size (content.Packet r) fits = fits.2
+begins_in place size content.Other fits = tt
+
+pub begins_behind : (section : Section) (place : Place) (window : List ℕ) (b : Block)
+    → block_at section place window ≡ Ok (Some b) → BeginsBehind place b.content
+begins_behind section place window b is =
+    begins_in place b.len b.content (placed section place window b is).packet
+
+room_in : (place : Place) (size : ℕ) (c : Content) → PacketFits place size c → HasRoom place c
+room_in place size (content.Section big) fits = tt
+room_in place size (content.Interface i) fits = tt
+room_in place size (content.Packet r) fits = omega (arith, fits.0)
+room_in place size content.Other fits = tt
+
+pub has_room : (section : Section) (place : Place) (window : List ℕ) (b : Block)
+    → block_at section place window ≡ Ok (Some b) → HasRoom place b.content
+has_room section place window b is =
+    room_in place b.len b.content (placed section place window b is).packet

@@ -120,22 +120,23 @@ walked_start bytes = record {
 }
 
 -- the order of the first block, with one block more
-order-push : (blocks : List Block) (b : Block) (n : ℕ) (big : Bool) → n ≡ length blocks
+pub order-push : (blocks : List Block) (b : Block) (n : ℕ) (big : Bool) → n ≡ length blocks
     → big ≡ first_order blocks
     → (if n == 0 then order_in b.content else big) ≡ first_order (blocks ++ b ∷ [])
 order-push [] b n big many order = rw many refl
 order-push (x ∷ xs) b n big many order =
     let other : (n == 0) ≡ false = grind (arith, nat_tests) in rw (other, order) refl
 
-packets-push : (blocks : List Block) (b : Block) → packets_of (blocks ++ b ∷ []) ≡ packets_of blocks
-    ++ packets_in b.content
+pub packets-push : (blocks : List Block) (b : Block)
+    → packets_of (blocks ++ b ∷ []) ≡ packets_of blocks ++ packets_in b.content
 packets-push [] b = append-nil (packets_in b.content)
 packets-push (x ∷ xs) b =
     ap (λ l. packets_in x.content ++ l) (packets-push xs b)
     ∙ sym (append_assoc (packets_in x.content) (packets_of xs) (packets_in b.content))
 
 -- a packet more is still not too many, and lies within the file
-few_more : (place : Place) (len : ℕ) (c : Content) → place.packets ≤ 262144 → PacketFits place len c
+pub few_more : (place : Place) (len : ℕ) (c : Content) → place.packets ≤ 262144
+    → PacketFits place len c
     → place.packets + length (packets_in c) ≤ 262144
 few_more place len (content.Section big) few fits = omega arith
 few_more place len (content.Interface i) few fits = omega arith
@@ -218,11 +219,13 @@ none_left rest empty is none = nil_from_length rest (elim (eqb_tells (length res
 
 -- the reader behind a block
 pub taken_in : (bytes : List ℕ) (reader next : Reader) (rest behind : List ℕ) (b : Block)
-    → Walked bytes reader.section reader.place reader.records reader.big rest → 0 < length rest
-    → block_at reader.section reader.place rest ≡ Ok (Some b) → TakesIn reader b next
-    → behind ≡ drop b.len rest
-    → Walked bytes next.section next.place next.records next.big behind
+    → Walked bytes reader.walker.section reader.walker.place reader.records reader.walker.big rest
+    → 0 < length rest
+    → block_at reader.walker.section reader.walker.place rest ≡ Ok (Some b)
+    → TakesIn reader b next → behind ≡ drop b.len rest
+    → Walked bytes next.walker.section next.walker.place next.records next.walker.big behind
 taken_in bytes reader next rest behind b w some is takes back =
-    let more = walked_more bytes reader.section reader.place reader.records reader.big rest b w some
-    is in
-    rw (takes.section, takes.place, takes.records, takes.order, back) more
+    let old = reader.walker in
+    let past = takes.walker in
+    let more = walked_more bytes old.section old.place reader.records old.big rest b w some is in
+    rw (past.section, past.place, takes.records, past.order, back) more

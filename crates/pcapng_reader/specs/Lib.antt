@@ -4,6 +4,7 @@ pub mod Blocks
 pub mod Captures
 pub mod Format
 pub mod Files
+pub mod Walkers
 pub mod Readers
 pub mod Writing
 pub mod Examples

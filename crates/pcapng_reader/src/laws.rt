@@ -5,6 +5,8 @@ ghost use Rattle.pcapng_reader.specs.Laws.{IsNoWant, HasFourPieces, BeginsWithSe
 ghost use Rattle.pcapng_reader.specs.Laws.{GrowsByFrame, ReadsNgBack, KeepsNgFrames};
 ghost use Rattle.pcapng_reader.specs.Laws.{ReadsWritten, ReadsWrittenOnly, TruncatesWritten};
 ghost use Rattle.pcapng_reader.specs.Laws.{ReadsWrittenFiles, ReadsExamples};
+ghost use Rattle.pcapng_reader.specs.Walkers.{BeginsMore, PassesMore, FillsBytes, CapturesAll};
+ghost use Rattle.pcapng_reader.specs.Walkers.{CapturesCut};
 
 /// Lemma: a file's bytes have exactly one capture or exactly one fault, and never both. Running out
 /// of memory is not a fault of bytes.
@@ -45,4 +47,15 @@ pub fn frames_are_read_back()
     ensures frame { GrowsByFrame }
     ensures reads_back { ReadsNgBack }
     ensures frames { KeepsNgFrames }
+{}
+
+/// Lemma: what a walker has passed stays passed when the file goes on with more bytes; its place is
+/// the number of bytes that it has passed; and at the end of the file its frames are those of the
+/// file's capture, whose last block is truncated if bytes are left that are no whole block.
+pub fn a_walker_passes_blocks()
+    ensures begins { BeginsMore }
+    ensures more { PassesMore }
+    ensures fills { FillsBytes }
+    ensures all { CapturesAll }
+    ensures cut { CapturesCut }
 {}

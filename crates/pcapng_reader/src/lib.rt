@@ -10,12 +10,14 @@ mod place;
 mod read;
 mod reader;
 mod section;
+mod walker;
 mod write;
 
 pub use fault::NgFault;
 pub use laws::{
     a_block_is_four_pieces, a_block_is_read_as_written, a_file_is_read_as_written,
-    frames_are_read_back, one_capture_or_fault,
+    a_walker_passes_blocks, frames_are_read_back, one_capture_or_fault,
 };
 pub use read::{is_pcapng, read_ng};
+pub use walker::{NgNext, NgWalker};
 pub use write::{put_enhanced, put_section};

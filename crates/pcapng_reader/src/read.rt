@@ -58,7 +58,7 @@ fn read_file(alloc: Global, bytes: &[u8]) -> Result<Capture, NgFault>
     let mut reader = Reader::new(alloc);
     let mut rest = bytes;
     while !rest.is_empty() {
-        let Some(block) = block_at(&reader.section, reader.place, rest)? else {
+        let Some(block) = block_at(&reader.walker.section, reader.walker.place, rest)? else {
             return Ok(reader.ends(Some(rest.len() as u32)));
         };
         reader.take_in(block)?;

@@ -1,13 +1,11 @@
 //! The part of a file that was read so far.
-ghost use Rattle.std.specs.Prelude.{◌≡◌, ◌+◌, ◌<◌, ◌^◌, [], length, OnOk, false};
-ghost use Rattle.pcapng_reader.specs.Captures.{no_section, file_start, packets_in, section_behind};
-ghost use Rattle.pcapng_reader.specs.Captures.{place_behind, order_in};
-ghost use Rattle.pcapng_reader.specs.Readers.{TakesIn, ng_capture_of};
+ghost use Rattle.std.specs.Prelude.{◌≡◌, ◌+◌, ◌<◌, ◌^◌, [], OnOk, false};
+ghost use Rattle.pcapng_reader.specs.Captures.{no_section, file_start};
+ghost use Rattle.pcapng_reader.specs.Readers.{HasRoom, TakesIn, ng_capture_of};
 
 use crate::block::Block;
 use crate::content::Content;
-use crate::place::Place;
-use crate::section::{Interfaces, Section};
+use crate::walker::NgWalker;
 use pcap_reader::{Capture, Records};
 use std::alloc::Global;
 use steer_base::OutOfMemory;
@@ -15,63 +13,38 @@ use steer_base::OutOfMemory;
 /// What was read of a file so far.
 #[derive(Drop)]
 pub struct Reader {
-    /// The section of the next block.
-    pub section: Section,
-    /// Where the next block is.
-    pub place: Place,
+    /// The walk over the blocks so far.
+    pub walker: NgWalker,
     /// The packets so far.
     pub records: Records,
-    /// The byte order of the first section, `true` if it is big-endian.
-    pub big: bool,
 }
 
 impl Reader {
     /// A reader that has read nothing. Allocates nothing.
     pub fn new(alloc: Global) -> Self
-        ensures section { result.section ≡ no_section }
-        ensures place { result.place ≡ file_start }
+        ensures section { result.walker.section ≡ no_section }
+        ensures place { result.walker.place ≡ file_start }
         ensures records { result.records ≡ [] }
-        ensures order { result.big ≡ false }
+        ensures order { result.walker.big ≡ false }
     {
         Reader {
-            section: Section {
-                big: false,
-                interfaces: Interfaces::new(alloc),
-            },
-            place: Place {
-                block: 0,
-                packets: 0,
-                start: 0,
-            },
+            walker: NgWalker::new(alloc),
             records: Records::new(alloc),
-            big: false,
         }
     }
 
-    /// Moves past a complete block, and keeps its content.
+    /// Moves past a complete block, and keeps its packet.
     pub fn take_in(&mut self, block: Block) -> Result<(), OutOfMemory>
-        requires blocks { self.old.place.block + 1 < 2 ^ 64 }
-        requires packets { self.old.place.packets + length (packets_in block.content) < 2 ^ 32 }
-        requires bytes { self.old.place.start + block.len < 2 ^ 64 }
+        requires blocks { self.old.walker.place.block + 1 < 2 ^ 64 }
+        requires packets { HasRoom self.old.walker.place block.content }
+        requires bytes { self.old.walker.place.start + block.len < 2 ^ 64 }
         ensures { OnOk result (TakesIn self.old block self.new) }
     {
-        if self.place.block == 0 {
-            self.big = is_big(block.content);
-        }
+        self.walker.pass(block)?;
         match block.content {
-            Content::Section { big } => {
-                self.section.big = big;
-                self.section.interfaces.clear();
-            }
-            Content::Interface(interface) => self.section.interfaces.push(interface)?,
-            Content::Packet(record) => {
-                self.records.push(record)?;
-                self.place.packets += 1;
-            }
-            Content::Other => {}
+            Content::Packet(record) => self.records.push(record)?,
+            _ => {}
         }
-        self.place.block += 1;
-        self.place.start += block.len as usize;
         Ok(())
     }
 
@@ -79,22 +52,12 @@ impl Reader {
     pub fn ends(self, cut: Option<u32>) -> Capture
         ensures { result ≡ ng_capture_of self cut }
     {
-        let Reader { records, big, .. } = self;
+        let Reader { walker, records } = self;
         Capture {
-            big,
+            big: walker.big,
             nano: false,
             records,
             cut,
         }
-    }
-}
-
-/// The byte order that a section header announces, `false` for every other block.
-fn is_big(content: Content) -> bool
-    ensures { result ≡ order_in content }
-{
-    match content {
-        Content::Section { big } => big,
-        _ => false,
     }
 }
