@@ -1,0 +1,4 @@
+pub mod PieceLemmas
+pub mod PcapngLemmas
+pub mod ClassicLemmas
+pub mod BeginLemmas

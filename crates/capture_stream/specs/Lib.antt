@@ -1,0 +1,6 @@
+pub mod Captures
+pub mod Windows
+pub mod Walks
+pub mod Streams
+pub mod Pcapng
+pub mod Classic
