@@ -20,4 +20,6 @@ mod rules;
 #[cfg(test)]
 mod seeds;
 #[cfg(test)]
+mod streams;
+#[cfg(test)]
 mod tunnels;

@@ -2,8 +2,9 @@
 use crate::pieces::{SEGMENT, joined, same, same_items};
 use pcap_reader::{Capture, PcapRecord};
 use pcapng_reader::{
-    NgFault, a_block_is_four_pieces, a_block_is_read_as_written, a_file_is_read_as_written,
-    frames_are_read_back, is_pcapng, one_capture_or_fault, put_enhanced, put_section, read_ng,
+    NgFault, NgNext, NgWalker, a_block_is_four_pieces, a_block_is_read_as_written,
+    a_file_is_read_as_written, a_walker_passes_blocks, frames_are_read_back, is_pcapng,
+    one_capture_or_fault, put_enhanced, put_section, read_ng,
 };
 use std::alloc::Global;
 use std::process::Abort;
@@ -356,4 +357,55 @@ fn laws_may_be_called() {
     a_block_is_read_as_written();
     a_file_is_read_as_written();
     frames_are_read_back();
+    a_walker_passes_blocks();
+}
+
+/// What a walker finds in a window of a short file.
+fn find(walker: &mut NgWalker, window: &[u8]) -> Result<NgNext, Fail> {
+    let place = walker.place;
+    if place.block > place.start as u64 || place.start > 4096 || window.len() > 4096 {
+        return Err("a long file".into());
+    }
+    Ok(walker.next(window).ok().ok_or("a fault")?)
+}
+
+/// Appends a part of a window.
+fn push_part(out: &mut Vec<u8>, window: &[u8], start: usize, len: usize) -> Result<(), Fail> {
+    let behind = window.get(start..).ok_or("a start past the window")?;
+    out.extend_from_slice(behind.get(..len).ok_or("a frame past the window")?)?;
+    Ok(())
+}
+
+/// The frames of a short file one after another, if its bytes come in pieces of this length.
+fn frames_by_pieces(alloc: Global, file: &[u8], piece: usize) -> Result<Vec<u8>, Fail> {
+    let mut walker = NgWalker::new(alloc);
+    let mut frames = Vec::new(alloc);
+    let mut at = 0usize;
+    let mut end = 0usize;
+    for _ in 0..4096u32 {
+        let window = file.get(at..end).ok_or("past the file")?;
+        match find(&mut walker, window)? {
+            NgNext::Frame { start, len, size } => {
+                push_part(&mut frames, window, start, len)?;
+                at = at.saturating_add(size);
+            }
+            NgNext::Other { size } => at = at.saturating_add(size),
+            NgNext::Incomplete => {
+                if end == file.len() {
+                    return Ok(frames);
+                }
+                end = end.saturating_add(piece).min(file.len());
+            }
+        }
+    }
+    Err("too many steps".into())
+}
+
+#[test]
+fn a_walker_finds_the_frames_in_pieces(rt: HostRuntime) -> Result<(), Fail> {
+    for piece in [1usize, 7, 64, 296] {
+        let frames = frames_by_pieces(rt.alloc(), &SECTIONS, piece)?;
+        same_items(&rt, &frames, b"abcdefghijkl".as_slice());
+    }
+    Ok(())
 }
