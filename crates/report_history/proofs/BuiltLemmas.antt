@@ -12,7 +12,7 @@ use Rattle.history.specs.declared.history.History.{History}
 use Rattle.report_reader.specs.Parts.{seen_packet}
 use Rattle.report_reader.specs.declared.parts.Parts.{Parts}
 use Rattle.report_reader.specs.declared.slots.Seen.{Seen}
-use Rattle.report_history.specs.Joined.{AreJoined}
+use Rattle.report_reader.specs.Joined.{AreJoined}
 use Rattle.report_history.specs.Lists.{AreQueueChoices}
 use Rattle.report_history.specs.Printed.{IsBuilt, IsHistoryOf}
 use Rattle.report_history.specs.Shown.{shown_sent, shown_tx_choice, own_write}

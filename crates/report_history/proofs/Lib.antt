@@ -1,5 +1,5 @@
 pub mod BuiltLemmas
-pub mod JoinedLemmas
+pub mod ChoicesLemmas
 pub mod ListsLemmas
 pub mod LoopsLemmas
 pub mod PickedLemmas

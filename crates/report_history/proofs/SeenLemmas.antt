@@ -15,7 +15,7 @@ use Rattle.report_reader.specs.Parts.{ArePartsOf, seen_packet, seen_reply}
 use Rattle.report_reader.specs.declared.packets.SeenReply.{SeenReply}
 use Rattle.report_reader.specs.declared.parts.Parts.{Parts}
 use Rattle.report_reader.specs.declared.slots.Seen.{Seen}
-use Rattle.report_history.specs.Joined.{AreJoined}
+use Rattle.report_reader.specs.Joined.{AreJoined}
 use Rattle.report_history.specs.Shown.{shown_choice, shown_put, shown_reply}
 use Rattle.report_history.proofs.PickedLemmas.{get-at, map-map, picked-map}
 

@@ -1,4 +1,3 @@
-pub mod Joined
 pub mod Lists
 pub mod Printed
 pub mod Shown

@@ -10,13 +10,13 @@ ghost use Rattle.report_history.specs.Shown.{shown_drop};
 use crate::lookup::shown_drop;
 use history::LaneList;
 use report_reader::shelf::shelves;
-use report_reader::{Kind, LaneSums, Seen};
+use report_reader::{Kind, LaneSums, SeenList};
 use std::alloc::Global;
 use std::mem;
 use steer_base::{LaneDrop, List, OutOfMemory, PacketId};
 
 // The drops of these packets.
-fn drops(alloc: Global, seen: &[Seen], ids: &[PacketId]) -> Result<Vec<LaneDrop>, OutOfMemory>
+fn drops(alloc: Global, seen: &SeenList, ids: &[PacketId]) -> Result<Vec<LaneDrop>, OutOfMemory>
     ensures { IfOk result (λ v. v.items ≡ filter_map (shown_drop seen.now) ids.now) }
 {
     let mut drops = Vec::with_capacity(alloc, ids.len())?;
@@ -58,7 +58,7 @@ fn take_list(alloc: Global, lists: &mut Vec<List<PacketId>>, at: usize) -> List<
 /// The backlogs of the processors with these sums.
 pub fn backlogs(
     alloc: Global,
-    seen: &[Seen],
+    seen: &SeenList,
     sums: &[LaneSums],
     start: u32,
 ) -> Result<Vec<LaneList>, OutOfMemory>
@@ -80,7 +80,7 @@ pub fn backlogs(
 /// The transmit queues with these sums.
 pub fn tx_queues(
     alloc: Global,
-    seen: &[Seen],
+    seen: &SeenList,
     sums: &[LaneSums],
     start: u32,
 ) -> Result<Vec<LaneList>, OutOfMemory>
@@ -100,7 +100,7 @@ pub fn tx_queues(
 /// The inboxes of so many applications.
 pub fn inboxes(
     alloc: Global,
-    seen: &[Seen],
+    seen: &SeenList,
     apps: u8,
     start: u32,
 ) -> Result<Vec<List<PacketId>>, OutOfMemory>

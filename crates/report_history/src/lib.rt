@@ -3,7 +3,6 @@
 
 mod arrivals;
 mod choices;
-mod joining;
 mod lanes;
 mod lookup;
 mod printed;

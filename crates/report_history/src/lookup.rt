@@ -4,28 +4,28 @@ ghost use Rattle.report_history.specs.Shown.{put_drop, shown_choice, shown_drop,
 ghost use Rattle.report_history.specs.Shown.{shown_reply, shown_sent};
 
 use history::Sent;
-use report_reader::{Seen, SeenReply};
+use report_reader::{SeenList, SeenReply};
 use steer_base::{Choice, LaneDrop, PacketId, Put};
 
 // The choice for a packet.
-pub(crate) fn shown_choice(seen: &[Seen], id: PacketId) -> Option<Choice>
+pub(crate) fn shown_choice(seen: &SeenList, id: PacketId) -> Option<Choice>
     ensures { result ≡ shown_choice seen.now id }
 {
-    seen.get(id.0 as usize)?.packet.choice
+    seen.packet(id.0 as usize)?.choice
 }
 
 // What became of it at its lane.
-fn shown_put(seen: &[Seen], id: PacketId) -> Option<Put>
+fn shown_put(seen: &SeenList, id: PacketId) -> Option<Put>
     ensures { result ≡ shown_put seen.now id }
 {
-    seen.get(id.0 as usize)?.packet.put
+    seen.packet(id.0 as usize)?.put
 }
 
 // The line of its reply.
-pub(crate) fn shown_reply(seen: &[Seen], id: PacketId) -> Option<SeenReply>
+pub(crate) fn shown_reply(seen: &SeenList, id: PacketId) -> Option<SeenReply>
     ensures { result ≡ shown_reply seen.now id }
 {
-    seen.get(id.0 as usize)?.reply
+    seen.reply(id.0 as usize)
 }
 
 // The drop of a packet, by the result of its put.
@@ -49,14 +49,14 @@ fn put_drop(id: PacketId, put: Put) -> Option<LaneDrop>
 }
 
 // The drop of a packet.
-pub(crate) fn shown_drop(seen: &[Seen], id: PacketId) -> Option<LaneDrop>
+pub(crate) fn shown_drop(seen: &SeenList, id: PacketId) -> Option<LaneDrop>
     ensures { result ≡ shown_drop seen.now id }
 {
     put_drop(id, shown_put(seen, id)?)
 }
 
 // The reply to a packet.
-pub(crate) fn shown_sent(seen: &[Seen], id: PacketId) -> Option<Sent>
+pub(crate) fn shown_sent(seen: &SeenList, id: PacketId) -> Option<Sent>
     ensures { result ≡ shown_sent seen.now id }
 {
     let reply = shown_reply(seen, id)?;

@@ -5,14 +5,14 @@ ghost use Rattle.report_history.specs.Printed.{IsBuilt, IsOnlyHistory};
 
 use crate::arrivals::arrivals;
 use crate::choices::choices;
-use crate::joining::join;
 use crate::lanes::{backlogs, inboxes, tx_queues};
 use crate::replies::{all_replies, tx_choices};
 use crate::writes::all_writes;
 use history::{History, lines_fit};
 use report_reader::shelf::shelf;
-use report_reader::{Kind, Parts, Seen};
+use report_reader::{Kind, Parts, SeenList};
 use std::alloc::Global;
+use std::mem;
 use steer_base::{List, OutOfMemory, Packet};
 use taps::TapText;
 
@@ -52,7 +52,7 @@ fn nothing(alloc: Global, start: u32) -> Printed {
 fn built(
     alloc: Global,
     parts: Parts,
-    seen: &[Seen],
+    seen: &SeenList,
     packets: &[Packet],
     apps: u8,
     start: u32,
@@ -95,7 +95,7 @@ fn built(
 /// some history.
 pub fn history_of(
     alloc: Global,
-    parts: Parts,
+    mut parts: Parts,
     packets: &[Packet],
     apps: u8,
     start: u32,
@@ -108,6 +108,8 @@ pub fn history_of(
     if parts.packets.len() > packets.len() {
         return Ok(nothing(alloc, start));
     }
-    let seen = join(alloc, &parts.packets, &parts.replies)?;
+    let lines = mem::replace(&mut parts.packets, Vec::new(alloc));
+    let replies = mem::replace(&mut parts.replies, Vec::new(alloc));
+    let seen = SeenList::join(alloc, lines, replies)?;
     built(alloc, parts, &seen, packets, apps, start)
 }

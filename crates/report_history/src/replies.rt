@@ -6,7 +6,7 @@ ghost use Rattle.report_history.specs.Shown.{shown_sent, shown_tx_choice, with_c
 
 use crate::lookup::{shown_reply, shown_sent};
 use history::Sent;
-use report_reader::Seen;
+use report_reader::SeenList;
 use std::alloc::Global;
 use steer_base::{Choice, Chosen, List, OutOfMemory, Packet, PacketId};
 
@@ -33,7 +33,7 @@ fn with_class(flow: u32, choice: Choice) -> Choice
 }
 
 // The transmit queue choice for a reply.
-fn shown_tx_choice(seen: &[Seen], packets: &[Packet], sent: Sent) -> Option<Chosen>
+fn shown_tx_choice(seen: &SeenList, packets: &[Packet], sent: Sent) -> Option<Chosen>
     ensures { result ≡ shown_tx_choice seen.now packets.now sent }
 {
     let choice = shown_reply(seen, sent.id)?.choice?;
@@ -44,7 +44,7 @@ fn shown_tx_choice(seen: &[Seen], packets: &[Packet], sent: Sent) -> Option<Chos
 }
 
 // The replies to these packets, as far as they were begun.
-fn replies(alloc: Global, seen: &[Seen], ids: &[PacketId]) -> Result<Vec<Sent>, OutOfMemory>
+fn replies(alloc: Global, seen: &SeenList, ids: &[PacketId]) -> Result<Vec<Sent>, OutOfMemory>
     ensures { IfOk result (λ v. v.items ≡ filter_map (shown_sent seen.now) ids.now) }
 {
     let mut replies = Vec::with_capacity(alloc, ids.len())?;
@@ -59,7 +59,7 @@ fn replies(alloc: Global, seen: &[Seen], ids: &[PacketId]) -> Result<Vec<Sent>, 
 // The transmit queue choices for these replies.
 fn chosen(
     alloc: Global,
-    seen: &[Seen],
+    seen: &SeenList,
     packets: &[Packet],
     replies: &[Sent],
 ) -> Result<Vec<Chosen>, OutOfMemory>
@@ -78,7 +78,7 @@ fn chosen(
 /// The replies of each application, by its inbox.
 pub fn all_replies(
     alloc: Global,
-    seen: &[Seen],
+    seen: &SeenList,
     inboxes: &[List<PacketId>],
 ) -> Result<Vec<List<Sent>>, OutOfMemory>
     ensures { IfOk result
@@ -94,7 +94,7 @@ pub fn all_replies(
 /// The transmit queue choices of each application, by its replies.
 pub fn tx_choices(
     alloc: Global,
-    seen: &[Seen],
+    seen: &SeenList,
     packets: &[Packet],
     sent: &[List<Sent>],
 ) -> Result<Vec<List<Chosen>>, OutOfMemory>

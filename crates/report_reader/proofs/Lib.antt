@@ -1,5 +1,6 @@
 pub mod CommandsLemmas
 pub mod EndsLemmas
+pub mod JoinedLemmas
 pub mod LastLemmas
 pub mod MembersLemmas
 pub mod OthersLemmas

@@ -1,5 +1,6 @@
 pub mod Commands
 pub mod Ends
+pub mod Joined
 pub mod Members
 pub mod Parts
 pub mod Sections

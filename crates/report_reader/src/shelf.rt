@@ -8,7 +8,8 @@ ghost use Rattle.report_reader.specs.declared.shelf.TheConstants.{LISTS};
 ghost use Rattle.report_reader.specs.declared.slots.Kind.{Kind as AKind};
 ghost use Rattle.report_reader.specs.declared.slots.Seen.{Seen as SeenLines};
 
-use crate::slots::{Kind, Seen, Slot, slot_of_kind};
+use crate::seen_list::SeenList;
+use crate::slots::{Kind, Slot, slot_of_kind};
 use std::alloc::Global;
 use std::marker::Model;
 use steer_base::{List as Items, OutOfMemory, PacketId};
@@ -32,15 +33,15 @@ fn count_one(counts: &mut Vec<u32>, slot: Option<Slot>)
 // Where each packet stands among the lists of a kind.
 fn slots(
     alloc: Global,
-    seen: &[Seen],
+    seen: &SeenList,
     kind: Kind,
     start: u32,
 ) -> Result<Vec<Option<Slot>>, OutOfMemory>
     ensures { IfOk result (λ slots. slots.items ≡ map (slot_of start kind) seen.now) }
 {
     let mut slots = Vec::with_capacity(alloc, seen.len())?;
-    for line in seen {
-        slots.push(slot_of_kind(line, kind, start))?;
+    for x in 0..seen.len() {
+        slots.push(slot_of_kind(&seen.at(x), kind, start))?;
     }
     Ok(slots)
 }
@@ -154,7 +155,7 @@ impl Places {
 /// stands at its place. The memory of each list is allocated once.
 pub fn shelves(
     alloc: Global,
-    seen: &[Seen],
+    seen: &SeenList,
     kind: Kind,
     count: usize,
     start: u32,
@@ -178,7 +179,7 @@ pub fn shelves(
 /// The list of a kind with this number: each packet stands at its place.
 pub fn shelf(
     alloc: Global,
-    seen: &[Seen],
+    seen: &SeenList,
     kind: Kind,
     list: usize,
     start: u32,

@@ -1,15 +1,70 @@
 -- Lines that are put together one packet after the other.
-use Rattle.std.proofs.Common.{ℕ, suc, ◌+◌, ◌≤◌, ◌<◌, ◌≡◌, List, [], ◌∷◌}
+use Rattle.std.proofs.Common.{ℕ, zero, suc, min, ◌+◌, ◌≤◌, ◌<◌, ◌≡◌, List, [], ◌∷◌}
 use Rattle.std.proofs.Common.{◌++◌, Option, Some, None, length, drop, take, refl, ap, ◌∙◌, sym}
 use Rattle.std.proofs.Common.{arith, inl, inr, get_or, subst, ◌⊎◌}
-use Rattle.std.specs.List.{cons_option, filter_map}
-use Rattle.std.proofs.lemmas.Bool.{eq-eqb, ne_eqb}
+use Rattle.std.specs.List.{cons_option, filter_map, slice_get}
+use Rattle.std.proofs.lemmas.Bool.{cases_eq, eq-eqb, ne_eqb}
 use Rattle.std.proofs.lemmas.List.{drop_more, drop-drop, get_or-drop, get_or-map, length-drop}
 use Rattle.std.proofs.lemmas.List.{length-map, take_all, take_more}
 use Rattle.report_reader.specs.declared.packets.SeenPacket.{SeenPacket}
 use Rattle.report_reader.specs.declared.packets.SeenReply.{SeenReply}
 use Rattle.report_reader.specs.declared.slots.Seen.{Seen}
-use Rattle.report_history.specs.Joined.{AreJoined, first_of}
+use Rattle.report_reader.specs.Joined.{AreJoined, first_of, reply_by, seen_lines}
+
+-- one number more
+pub lines-more : (replies : List SeenReply) (packets : List SeenPacket) (numbers new : List ℕ)
+    (n x : ℕ) (p : SeenPacket) → new ≡ numbers ++ n ∷ [] → length numbers ≡ x
+    → x < length packets → p ≡ get_or packets x p
+    → seen_lines replies packets new
+    ≡ seen_lines replies packets numbers
+    ++ record { packet = p; reply = reply_by replies n } ∷ []
+lines-more replies packets numbers new n x p e l k is =
+    ap (seen_lines replies packets) e ∙ more packets numbers x l k is
+  where
+    none : (ps : List SeenPacket) → seen_lines replies ps [] ≡ []
+    none [] = refl
+    none (q ∷ ps) = refl
+
+    more : (ps : List SeenPacket) (ns : List ℕ) (y : ℕ) → length ns ≡ y → y < length ps
+        → p ≡ get_or ps y p
+        → seen_lines replies ps (ns ++ n ∷ [])
+        ≡ seen_lines replies ps ns ++ record { packet = p; reply = reply_by replies n } ∷ []
+    more [] ns y l k is = absurd (omega (arith, k))
+    more (q ∷ ps) [] zero l k is =
+        λ w. record { packet = sym is w; reply = reply_by replies n } ∷ none ps w
+    more (q ∷ ps) [] (suc y) l k is = absurd (omega (arith, l))
+    more (q ∷ ps) (m ∷ ns) zero l k is = absurd (omega (arith, l))
+    more (q ∷ ps) (m ∷ ns) (suc y) l k is =
+        ap (λ xs. record { packet = q; reply = reply_by replies m } ∷ xs)
+        (more ps ns y (omega (arith, l)) (omega (arith, k)) is)
+
+pub lines-long : (replies : List SeenReply) (packets : List SeenPacket) (numbers : List ℕ)
+    → length (seen_lines replies packets numbers) ≡ min (length packets) (length numbers)
+lines-long replies [] numbers = omega arith
+lines-long replies (p ∷ packets) [] = omega arith
+lines-long replies (p ∷ packets) (n ∷ numbers) =
+    let f = lines-long replies packets numbers in omega (arith, f)
+
+pub lines-none : (replies : List SeenReply) (packets : List SeenPacket)
+    → seen_lines replies packets [] ≡ []
+lines-none replies [] = refl
+lines-none replies (p ∷ packets) = refl
+
+-- the lines of a packet
+pub lines-at : (replies : List SeenReply) (packets : List SeenPacket) (numbers : List ℕ) (x : ℕ)
+    (p : SeenPacket) (n : ℕ) (d : Seen) → x < length packets → x < length numbers
+    → get_or (seen_lines replies packets numbers) x d
+    ≡ record { packet = get_or packets x p; reply = reply_by replies (get_or numbers x n) }
+lines-at replies [] numbers x p n d k l = absurd (omega (arith, k))
+lines-at replies (q ∷ packets) [] x p n d k l = absurd (omega (arith, l))
+lines-at replies (q ∷ packets) (m ∷ numbers) zero p n d k l = refl
+lines-at replies (q ∷ packets) (m ∷ numbers) (suc x) p n d k l =
+    lines-at replies packets numbers x p n d (omega (arith, k)) (omega (arith, l))
+
+item-at : {A : Type 0} (xs : List A) (i : ℕ) → i < length xs → (a : A) × (a ≡ get_or xs i a)
+item-at [] i l = absurd (omega (arith, l))
+item-at (x ∷ xs) zero l = (x, refl)
+item-at (x ∷ xs) (suc i) l = item-at xs i (omega (arith, l))
 
 -- The lines of the packets below x are put together, and the replies to the others are left.
 pub record IsJoinedTo (x : ℕ) (lines built : List Seen) (left : List SeenReply) : Type 0 where
@@ -75,6 +130,31 @@ some-or-none : {A : Type 0} (o : Option A) → ((a : A) × (o ≡ Some a)) ⊎ (
 some-or-none None = inr refl
 some-or-none (Some a) = inl (a, refl)
 
+-- a reply by its number
+first-got : (x n : ℕ) (rs : List SeenReply) (r : SeenReply) → first_of x (drop n rs) ≡ Some r
+    → slice_get rs n ≡ Some r
+first-got x zero [] r e = absurd (cc)
+first-got x (suc n) [] r e = absurd (cc)
+first-got x zero (q ∷ rs) r e =
+    elim (cases_eq q.id x) [
+      | inl i ↦ let f : first_of x (q ∷ rs) ≡ Some q = rw (eq-eqb q.id x i) refl in sym f ∙ e
+      | inr ne ↦
+          let f : first_of x (q ∷ rs) ≡ None = rw (ne_eqb q.id x ne) refl in
+          absurd (let g : None ≡ Some r = sym f ∙ e in cc)
+    ]
+first-got x (suc n) (q ∷ rs) r e = first-got x n rs r e
+
+number-own : (x next n : ℕ) (reply : Option SeenReply) (rs : List SeenReply)
+    → reply ≡ first_of x (drop next rs) → (reply ≡ None → n ≡ 0)
+    → ((r : SeenReply) → reply ≡ Some r → n ≡ next + 1) → reply_by rs n ≡ reply
+number-own x next n reply rs is none some =
+    elim (some-or-none reply) [
+      | inl r ↦
+          let m : n ≡ suc next = let f = some r.0 r.1 in omega (arith, f) in
+          ap (reply_by rs) m ∙ first-got x next rs r.0 (sym is ∙ r.1) ∙ sym r.1
+      | inr z ↦ ap (reply_by rs) (none z) ∙ sym z
+    ]
+
 -- the rest of some lines is counted from its first
 own-drop : (x : ℕ) (lines : List Seen)
     → ((y : ℕ) (d : Seen) (r : SeenReply) → y < length lines
@@ -134,6 +214,22 @@ module _ (packets : List SeenPacket) (replies : List SeenReply) (lines : List Se
             ∙ sym (take_more lines x v n);
         rest = rest;
       }
+
+  -- the next packet with the number of its reply
+  pub join-next : (x next more n : ℕ) (numbers new : List ℕ) (reply : Option SeenReply)
+      → x < length packets → length numbers ≡ x
+      → IsJoinedTo x lines (seen_lines replies packets numbers) (drop next replies)
+      → reply ≡ first_of x (drop next replies) → (reply ≡ None → more ≡ 0)
+      → ((r : SeenReply) → reply ≡ Some r → more ≡ 1) → (reply ≡ None → n ≡ 0)
+      → ((r : SeenReply) → reply ≡ Some r → n ≡ next + 1) → new ≡ numbers ++ n ∷ []
+      → IsJoinedTo (x + 1) lines (seen_lines replies packets new) (drop (next + more) replies)
+  join-next x next more n numbers new reply l long inv is none some zero_is one_is push =
+      let built = seen_lines replies packets numbers in
+      let p = item-at packets x l in
+      join-step x next more built (seen_lines replies packets new) reply p.0 l inv is none some p.1
+      (lines-more replies packets numbers new n x p.0 push long l p.1
+      ∙ ap (λ o. built ++ record { packet = p.0; reply = o } ∷ [])
+      (number-own x next n reply replies is zero_is one_is))
 
   pub join-all : (x : ℕ) (built : List Seen) (left : List SeenReply) → length packets ≤ x
       → IsJoinedTo x lines built left → built ≡ lines
