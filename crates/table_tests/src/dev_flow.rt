@@ -19,7 +19,6 @@ const ALL: CpuMask = CpuMask(0b1111);
 const WITHOUT_1: CpuMask = CpuMask(0b1101);
 
 // A packet that comes to a queue, what is seen for it, and what has to be chosen.
-#[derive(Clone, Copy)]
 struct Turn {
     hash: u32,
     want: Option<u8>,
@@ -35,7 +34,7 @@ struct Turn {
 
 // What a caller does: it looks at the head of the current lane where that lane is online and not
 // the desired one.
-fn weigh(table: &mut DevTable, class: u32, turn: Turn) -> Choice
+fn weigh(table: &mut DevTable, class: u32, turn: &Turn) -> Choice
     requires { IsClassOf table.old (Some class) }
     ensures { table.new.exact ≡ table.old.exact }
 {
@@ -52,7 +51,7 @@ fn weigh(table: &mut DevTable, class: u32, turn: Turn) -> Choice
 }
 
 // The choice that is wanted of a turn.
-fn wanted(class: u32, turn: Turn) -> Choice {
+fn wanted(class: u32, turn: &Turn) -> Choice {
     Choice {
         class: Some(class),
         want: turn.want,
@@ -68,198 +67,190 @@ fn play(rt: &impl Abort, table: &mut DevTable, turns: &[Turn]) -> Result<(), Fai
 {
     for (at, turn) in turns.iter().enumerate() {
         let class = table.class(Some(turn.hash)).ok_or("a class")?;
-        let choice = weigh(table, class, *turn);
-        same(rt, &choice, &wanted(class, *turn), at);
+        let choice = weigh(table, class, turn);
+        same(rt, &choice, &wanted(class, turn), at);
     }
     Ok(())
 }
+
+// The first packet of its class.
+const ALONE: Turn = Turn {
+    hash: FIRST,
+    want: None,
+    desired: 1,
+    heads: [0; 4],
+    online: ALL,
+    head: None,
+    tail: 0,
+    lane: 1,
+    why: Why::Unset,
+    position: 1,
+};
+
+const TWO_FLOWS: &[Turn] = &[
+    ALONE,
+    Turn {
+        hash: SECOND,
+        want: Some(2),
+        desired: 2,
+        head: Some(0),
+        tail: 1,
+        why: Why::Kept,
+        position: 2,
+        ..ALONE
+    },
+    Turn {
+        hash: SECOND,
+        want: Some(2),
+        desired: 2,
+        heads: [0, 2, 0, 0],
+        head: Some(2),
+        tail: 2,
+        lane: 2,
+        why: Why::Passed,
+        ..ALONE
+    },
+    Turn {
+        heads: [0, 2, 0, 0],
+        head: Some(0),
+        tail: 1,
+        lane: 2,
+        why: Why::Kept,
+        position: 2,
+        ..ALONE
+    },
+];
 
 #[test]
 fn two_flows_of_one_class_move_together(rt: HostRuntime) -> Result<(), Fail> {
     let mut table = DevTable::make(rt.alloc(), 2, 0)?;
     same(&rt, &table.class(None), &None, 0);
-    let turn = Turn {
-        hash: FIRST,
-        want: None,
-        desired: 1,
-        heads: [0; 4],
-        online: ALL,
-        head: None,
-        tail: 0,
-        lane: 1,
-        why: Why::Unset,
-        position: 1,
-    };
-    let to_2 = Turn {
-        hash: SECOND,
-        want: Some(2),
-        desired: 2,
-        ..turn
-    };
-    let turns = [
-        turn,
-        Turn {
-            head: Some(0),
-            tail: 1,
-            why: Why::Kept,
-            position: 2,
-            ..to_2
-        },
-        Turn {
-            heads: [0, 2, 0, 0],
-            head: Some(2),
-            tail: 2,
-            lane: 2,
-            why: Why::Passed,
-            ..to_2
-        },
-        Turn {
-            heads: [0, 2, 0, 0],
-            head: Some(0),
-            tail: 1,
-            lane: 2,
-            why: Why::Kept,
-            position: 2,
-            ..turn
-        },
-    ];
-    play(&rt, &mut table, &turns)
+    play(&rt, &mut table, TWO_FLOWS)
 }
+
+// The same where 4294967294 is the number of no packet.
+const ALONE_AT_THE_WRAP: Turn = Turn {
+    heads: [4294967294; 4],
+    tail: 4294967294,
+    position: 4294967295,
+    ..ALONE
+};
+
+const KEPT_AT_THE_WRAP: Turn = Turn {
+    want: Some(2),
+    desired: 2,
+    head: Some(4294967294),
+    why: Why::Kept,
+    ..ALONE_AT_THE_WRAP
+};
+
+const WRAPPING: &[Turn] = &[
+    ALONE_AT_THE_WRAP,
+    Turn {
+        tail: 4294967295,
+        position: 0,
+        ..KEPT_AT_THE_WRAP
+    },
+    Turn {
+        tail: 0,
+        position: 1,
+        ..KEPT_AT_THE_WRAP
+    },
+    Turn {
+        heads: [0, 1, 0, 0],
+        head: Some(1),
+        tail: 1,
+        lane: 2,
+        why: Why::Passed,
+        ..KEPT_AT_THE_WRAP
+    },
+];
+
+const RESIZED: &[Turn] = &[Turn {
+    hash: 7,
+    ..ALONE_AT_THE_WRAP
+}];
 
 #[test]
 fn a_flow_moves_across_the_wrap_of_the_counters(rt: HostRuntime) -> Result<(), Fail> {
-    let start = 4294967294;
-    let mut table = DevTable::make(rt.alloc(), 1, start)?;
-    let turn = Turn {
-        hash: FIRST,
-        want: None,
-        desired: 1,
-        heads: [start; 4],
-        online: ALL,
-        head: None,
-        tail: start,
-        lane: 1,
-        why: Why::Unset,
-        position: 4294967295,
-    };
-    let to_2 = Turn {
-        want: Some(2),
-        desired: 2,
-        head: Some(start),
-        why: Why::Kept,
-        ..turn
-    };
-    let turns = [
-        turn,
-        Turn {
-            tail: 4294967295,
-            position: 0,
-            ..to_2
-        },
-        Turn {
-            tail: 0,
-            position: 1,
-            ..to_2
-        },
-        Turn {
-            heads: [0, 1, 0, 0],
-            head: Some(1),
-            tail: 1,
-            lane: 2,
-            why: Why::Passed,
-            ..to_2
-        },
-    ];
-    play(&rt, &mut table, &turns)?;
+    let mut table = DevTable::make(rt.alloc(), 1, 4294967294)?;
+    play(&rt, &mut table, WRAPPING)?;
     table.resize(3);
     // Three classes are rounded up to four.
     same(&rt, &table.class(Some(7)), &Some(3), 0);
-    play(&rt, &mut table, &[Turn { hash: 7, ..turn }])
+    play(&rt, &mut table, RESIZED)
 }
+
+const LEAVING: &[Turn] = &[
+    Turn {
+        heads: [0, 1, 0, 0],
+        ..ALONE
+    },
+    Turn {
+        heads: [0, 1, 0, 0],
+        desired: 0,
+        online: WITHOUT_1,
+        tail: 1,
+        lane: 0,
+        why: Why::Offline,
+        ..ALONE
+    },
+    Turn {
+        heads: [0, 1, 0, 0],
+        desired: 0,
+        tail: 1,
+        lane: 0,
+        why: Why::Same,
+        position: 2,
+        ..ALONE
+    },
+];
 
 #[test]
 fn a_class_leaves_an_offline_lane(rt: HostRuntime) -> Result<(), Fail> {
     let mut table = DevTable::make(rt.alloc(), 1, 0)?;
-    let turn = Turn {
-        hash: FIRST,
-        want: None,
-        desired: 1,
-        heads: [0, 1, 0, 0],
-        online: ALL,
-        head: None,
-        tail: 0,
-        lane: 1,
-        why: Why::Unset,
-        position: 1,
-    };
-    let turns = [
-        turn,
-        Turn {
-            desired: 0,
-            online: WITHOUT_1,
-            tail: 1,
-            lane: 0,
-            why: Why::Offline,
-            ..turn
-        },
-        Turn {
-            desired: 0,
-            tail: 1,
-            lane: 0,
-            why: Why::Same,
-            position: 2,
-            ..turn
-        },
-    ];
-    play(&rt, &mut table, &turns)
+    play(&rt, &mut table, LEAVING)
 }
+
+// The first reply of a flow, by queue 0.
+const REPLY: Turn = Turn {
+    hash: 2,
+    want: Some(0),
+    desired: 0,
+    lane: 0,
+    ..ALONE
+};
+
+const REPLIES: &[Turn] = &[
+    REPLY,
+    Turn {
+        want: Some(1),
+        desired: 1,
+        head: Some(0),
+        tail: 1,
+        why: Why::Kept,
+        position: 2,
+        ..REPLY
+    },
+    Turn {
+        want: Some(1),
+        desired: 1,
+        heads: [2, 0, 0, 0],
+        head: Some(2),
+        tail: 2,
+        lane: 1,
+        why: Why::Passed,
+        ..REPLY
+    },
+];
 
 #[test]
 fn a_flow_of_replies_changes_its_queue(rt: HostRuntime) -> Result<(), Fail> {
     let mut table = DevTable::make_exact(rt.alloc(), 3, 0)?;
-    let turn = Turn {
-        hash: 2,
-        want: Some(0),
-        desired: 0,
-        heads: [0; 4],
-        online: ALL,
-        head: None,
-        tail: 0,
-        lane: 0,
-        why: Why::Unset,
-        position: 1,
-    };
-    let to_1 = Turn {
-        want: Some(1),
-        desired: 1,
-        ..turn
-    };
-    let turns = [
-        turn,
-        Turn {
-            head: Some(0),
-            tail: 1,
-            why: Why::Kept,
-            position: 2,
-            ..to_1
-        },
-        Turn {
-            heads: [2, 0, 0, 0],
-            head: Some(2),
-            tail: 2,
-            lane: 1,
-            why: Why::Passed,
-            ..to_1
-        },
-    ];
-    play(&rt, &mut table, &turns)?;
+    play(&rt, &mut table, REPLIES)?;
     // Three classes stay three.
     same(&rt, &table.class(Some(3)), &Some(0), 0);
-    same(
-        &rt,
-        &table.weigh(None, Some(1), 2, None, ALL).why,
-        &Why::Plain,
-        1,
-    );
+    let plain = table.weigh(None, Some(1), 2, None, ALL);
+    same(&rt, &plain.why, &Why::Plain, 1);
     Ok(())
 }

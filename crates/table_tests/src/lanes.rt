@@ -15,10 +15,10 @@ const FIRST: u32 = 0x51cc_c178;
 const SECOND: u32 = 0xc626_b0ea;
 
 // Where the packet of this number of a large flow goes, counted from 1.
-fn wanted(position: u32, limited: bool) -> Put {
+pub(crate) fn wanted(position: u32, limited: bool) -> Put {
     if limited && position > 151 {
         Put::Dropped {
-            number: position - 151,
+            number: position.saturating_sub(151),
             accepted: 151,
             pulled: 0,
             cause: DropCause::Flow(position.min(256)),
@@ -108,10 +108,34 @@ fn a_full_backlog_is_the_cause_before_the_flow_limit(rt: HostRuntime) -> Result<
 }
 
 // What is done to a lane, with the answer that is wanted.
-#[derive(Drop)]
 enum Deed {
     Put(u32, Put),
-    Take(Option<PacketId>),
+    Take(Option<u32>),
+}
+
+const NO_WAIT: &[Deed] = &[
+    Deed::Put(0, Put::At(1)),
+    Deed::Put(
+        1,
+        Put::Dropped {
+            number: 1,
+            accepted: 1,
+            pulled: 0,
+            cause: DropCause::Full,
+        },
+    ),
+    Deed::Take(Some(0)),
+    Deed::Put(2, Put::At(2)),
+];
+
+const WRAPPING: &[Deed] = &[
+    Deed::Put(7, Put::At(4294967295)),
+    Deed::Put(9, Put::At(0)),
+    Deed::Take(Some(7)),
+];
+
+fn number_of(packet: Option<PacketId>) -> Option<u32> {
+    Some(packet?.0)
 }
 
 fn play(rt: &impl Abort, lane: &mut Lane, deeds: &[Deed])
@@ -123,7 +147,7 @@ fn play(rt: &impl Abort, lane: &mut Lane, deeds: &[Deed])
                 same(rt, &lane.put(PacketId(*id), None), wanted, at);
             }
             Deed::Take(wanted) => {
-                same(rt, &lane.take(), wanted, at);
+                same(rt, &number_of(lane.take()), wanted, at);
             }
         }
     }
@@ -132,19 +156,7 @@ fn play(rt: &impl Abort, lane: &mut Lane, deeds: &[Deed])
 #[test]
 fn the_packet_in_hand_does_not_wait(rt: HostRuntime) -> Result<(), Fail> {
     let mut lane = Lane::make(rt.alloc(), 1, 8, 0, false)?;
-    let dropped = Put::Dropped {
-        number: 1,
-        accepted: 1,
-        pulled: 0,
-        cause: DropCause::Full,
-    };
-    let deeds = [
-        Deed::Put(0, Put::At(1)),
-        Deed::Put(1, dropped),
-        Deed::Take(Some(PacketId(0))),
-        Deed::Put(2, Put::At(2)),
-    ];
-    play(&rt, &mut lane, &deeds);
+    play(&rt, &mut lane, NO_WAIT);
     let drop = LaneDrop {
         id: PacketId(1),
         accepted: 1,
@@ -162,12 +174,7 @@ fn the_packet_in_hand_does_not_wait(rt: HostRuntime) -> Result<(), Fail> {
 fn positions_go_on_across_the_wrap(rt: HostRuntime) -> Result<(), Fail> {
     let mut lane = Lane::make(rt.alloc(), 3, 3, 4294967294, false)?;
     same(&rt, &lane.tail(), &4294967294, 0);
-    let deeds = [
-        Deed::Put(7, Put::At(4294967295)),
-        Deed::Put(9, Put::At(0)),
-        Deed::Take(Some(PacketId(7))),
-    ];
-    play(&rt, &mut lane, &deeds);
+    play(&rt, &mut lane, WRAPPING);
     same(&rt, &lane.tail(), &0, 1);
     same(&rt, &lane.take(), &Some(PacketId(9)), 2);
     same(&rt, &lane.take(), &None, 3);

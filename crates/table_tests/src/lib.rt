@@ -22,4 +22,6 @@ mod rps;
 #[cfg(test)]
 mod sock_flow;
 #[cfg(test)]
+mod traces;
+#[cfg(test)]
 mod xps;
