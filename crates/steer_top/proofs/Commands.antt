@@ -1,5 +1,5 @@
 -- What is true where the commands end.
-use Rattle.std.proofs.Common.{◌≡◌, ◌≢◌, ◌≤◌, ◌<◌, zero, suc, ℕ, List, [], ◌∷◌, ◌++◌, length, take}
+use Rattle.std.proofs.Common.{◌≡◌, ◌≢◌, ◌≤◌, ◌<◌, zero, suc, ℕ, List, [], ◌∷◌, ◌++◌, length}
 use Rattle.std.proofs.Common.{Option, Some, None, unwrap_or, inl, inr, refl, sym, ap, subst, ◌∙◌}
 use Rattle.std.proofs.Common.{arith, IfErr, IfSome, Result, Ok, Err}
 use Rattle.std.specs.Io.KnownBytes.{Keeps, Appends}
@@ -7,6 +7,9 @@ use Rattle.std.proofs.KnownBytes.{Appends-kept, Keeps-trans}
 use Rattle.std.proofs.lemmas.List.{take_all}
 use Rattle.outside_io.specs.Counts.{Rose}
 use Rattle.outside_io.specs.Sink.{AppendsSome}
+use Rattle.capture_stream.specs.Streams.{IsFaultOf}
+use Rattle.capture_stream.specs.declared.fault.StreamFault.{StreamFault}
+use Rattle.capture_stream.specs.declared.fault.StreamFault.TheVariants as stream
 use Rattle.steer_top.proofs.Tellings.{AppendsSome-kept}
 use Rattle.steer_top.specs.Files.{Accepted, Files, IsBad, IsNot, Refused, limit_of}
 use Rattle.steer_top.specs.Outcomes.{Writes, name_of, roles_of, file_bytes}
@@ -15,7 +18,7 @@ use Rattle.steer_top.specs.Words.{PlanWords}
 use Rattle.steer_top.specs.Words.CommandWords.{Check, Gen, Hash, Place, Replay, Run}
 use Rattle.steer_top.specs.Endings.{Course, Gave, NothingOut, EndsAs, EndsAt, EndsBy, EndsCommand}
 use Rattle.steer_top.specs.Endings.{EndsAtInput, EndsUnfit, EndsUnread, EndsWriting, Flushes}
-use Rattle.steer_top.specs.Endings.{StopsAt}
+use Rattle.steer_top.specs.Endings.{StopsAt, ending_of_stream}
 use Rattle.steer_top.specs.declared.ending.Role.{Role}
 use Rattle.steer_top.specs.declared.ending.Role.TheVariants as role
 use Rattle.steer_top.specs.declared.ending.Refusal.{Refusal}
@@ -83,6 +86,26 @@ stops_unfit ending.Done r name bytes held before after asked gave few h = absurd
 stops_unfit ending.Usage r name bytes held before after asked gave few h = absurd h
 stops_unfit ending.WriteFault r name bytes held before after asked gave few h = absurd h
 stops_unfit ending.ReadFault r name bytes held before after asked gave few h = absurd h
+
+-- a command stops at a capture that was not read
+pub stops_stream : (e : StreamFault) (name : List ℕ) (held : Option (List ℕ))
+    (before after : ℕ) (asked : Option (List ℕ))
+    → IsFaultOf held (limit_of role.Capture) e → (e ≡ stream.Unread → Rose before after)
+    → IfSome asked (λ last. last ≡ name)
+    → EndsAt (ending_of_stream e) role.Capture name held before after asked
+stops_stream stream.Unread name held before after asked is failed last =
+    stops_unread ending.ReadFault role.Capture name held before after asked (failed refl, last)
+stops_stream stream.TooLong name held before after asked is failed last =
+    stops_unread (ending.Refuses (refusal.TooLong role.Capture)) role.Capture name held before
+    after asked (refl, is)
+stops_stream stream.OutOfMemory name held before after asked is failed last =
+    stops_unread ending.OutOfMemory role.Capture name held before after asked tt
+stops_stream (stream.Classic f) name held before after asked (bytes, gave, few, is) failed last =
+    stops_unfit (ending.Refuses (refusal.Capture f)) role.Capture name bytes held before after
+    asked gave few is
+stops_stream (stream.Ng f) name held before after asked (bytes, gave, few, is) failed last =
+    stops_unfit (ending.Refuses (refusal.Pcapng f)) role.Capture name bytes held before after
+    asked gave few is
 
 -- a command that stops at a file after others
 pub stops_later : (e : Ending) (r : Role) (name bytes : List ℕ) (before mid after : ℕ)

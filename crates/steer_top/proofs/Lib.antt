@@ -5,6 +5,9 @@ pub mod CheckedRuns
 pub mod Commands
 pub mod Decided
 pub mod FewPackets
+pub mod CapturedFrames
+pub mod FlowLists
+pub mod FrameLists
 pub mod Functions
 pub mod Headlines
 pub mod Inputs

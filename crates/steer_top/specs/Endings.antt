@@ -3,6 +3,8 @@ use Rattle.std.specs.Prelude.{◌≡◌, ◌≢◌, ◌≤◌, ◌<◌, ◌⊎�
 use Rattle.std.specs.Prelude.{decimal, ⊤}
 use Rattle.std.specs.Prelude.{Option, Some, None, IfSome, ◌==◌, if◌then◌else◌}
 use Rattle.std.specs.Io.KnownBytes.{Keeps, Appends, IsAtEnd}
+use Rattle.capture_stream.specs.declared.fault.StreamFault.{StreamFault}
+use Rattle.capture_stream.specs.declared.fault.StreamFault.TheVariants as stream
 use Rattle.outside_io.specs.Counts.{Rose}
 use Rattle.outside_io.specs.Sink.{AppendsSome}
 use Rattle.report.specs.Numbers.{hex8_of}
@@ -29,6 +31,14 @@ abbrev pub EndsAs : {F : Type 0} → F → F → Refusal → Ending → Type 0
 EndsAs fault memory reason e =
     ((fault ≡ memory) × (e ≡ ending.OutOfMemory))
     ⊎ ((fault ≢ memory) × (e ≡ ending.Refuses reason))
+
+-- How a command ends that could not read its capture, for this reason.
+abbrev pub ending_of_stream : StreamFault → Ending
+ending_of_stream stream.Unread = ending.ReadFault
+ending_of_stream stream.TooLong = ending.Refuses (refusal.TooLong role.Capture)
+ending_of_stream stream.OutOfMemory = ending.OutOfMemory
+ending_of_stream (stream.Classic f) = ending.Refuses (refusal.Capture f)
+ending_of_stream (stream.Ng f) = ending.Refuses (refusal.Pcapng f)
 
 -- The status of a refusal.
 abbrev pub status_of_refusal : Refusal → ℕ

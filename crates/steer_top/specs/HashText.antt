@@ -1,6 +1,6 @@
 -- The text of the command `hash`: a line for each packet, and a line that counts them.
-use Rattle.std.specs.Prelude.{ℕ, ◌+◌, List, [], ◌∷◌, ◌++◌, length, codes, decimal, Option, Some}
-use Rattle.std.specs.Prelude.{None}
+use Rattle.std.specs.Prelude.{ℕ, zero, suc, ◌+◌, List, [], ◌∷◌, ◌++◌, length, codes, decimal}
+use Rattle.std.specs.Prelude.{Option, Some, None}
 use Rattle.steer_base.specs.declared.flow.Pair.{Pair}
 use Rattle.steer_base.specs.declared.flow.Pair.TheVariants.{V4, V6}
 use Rattle.steer_base.specs.declared.flow.Proto.{Proto}
@@ -52,6 +52,12 @@ packet_text number flow hash queue =
     codes "packet " ++ decimal number ++ codes " " ++ flow_text flow ++ hash_text hash
     ++ codes " queue " ++ decimal queue
 
+-- The line of a flow, by the verification key and these kinds and table.
+unfoldable pub flow_line : ℕ → Redirection → ℕ → Flow → List ℕ
+flow_line kinds table number flow =
+    let hash = hash_of_flow verification_key flow kinds in
+    packet_text number flow hash (queue_of table hash) ++ codes "\n"
+
 -- The line of a frame, by the verification key and these kinds and table.
 unfoldable pub frame_line : ℕ → Redirection → ℕ → List ℕ → List ℕ
 frame_line kinds table number frame =
@@ -69,6 +75,15 @@ unfoldable pub count_line : ℕ → Option ℕ → List ℕ
 count_line packets None = codes "packets " ++ decimal packets ++ codes "\n"
 count_line packets (Some cut) =
     codes "packets " ++ decimal packets ++ codes " cut " ++ decimal cut ++ codes "\n"
+
+-- The lines of so many packets, by the line of a number.
+unfoldable pub numbered_lines : (ℕ → List ℕ) → ℕ → List ℕ
+numbered_lines line zero = []
+numbered_lines line (suc count) = numbered_lines line count ++ line count
+
+-- The lines of so many packets, and the line that counts them.
+unfoldable pub numbered_text : (ℕ → List ℕ) → ℕ → Option ℕ → List ℕ
+numbered_text line count cut = numbered_lines line count ++ count_line count cut
 
 -- The lines of a capture's packets, and the line that counts them.
 unfoldable pub all_lines : (ℕ → List ℕ → List ℕ) → List ℕ → Capture → List ℕ

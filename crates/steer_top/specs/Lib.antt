@@ -2,8 +2,10 @@ pub mod Words
 pub mod Commands
 pub mod Captures
 pub mod Files
+pub mod FlowLists
 pub mod HashText
 pub mod PlaceText
+pub mod FrameLists
 pub mod Checks
 pub mod Taken
 pub mod Runs

@@ -41,6 +41,13 @@ unfoldable pub rule_text : Option ℕ → List ℕ
 rule_text None = codes " rule -"
 rule_text (Some number) = codes " rule " ++ decimal number
 
+-- The line of a flow that was found in so many levels.
+unfoldable pub placed_line : Rules → ℕ → Inner → List ℕ
+placed_line rules number placed =
+    let found = first_match rules.rules placed.flow in
+    packet_text number placed.flow (hash_for rules placed.flow) (queue_for rules placed.flow)
+    ++ rule_text found ++ codes " depth " ++ decimal placed.depth ++ codes "\n"
+
 -- The line of a frame.
 unfoldable pub place_line : Rules → ℕ → List ℕ → List ℕ
 place_line rules number frame =

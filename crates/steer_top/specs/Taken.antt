@@ -1,12 +1,12 @@
 -- What was taken of a file, by the bytes that the desk tells of its name.
-use Rattle.std.specs.Prelude.{◌≡◌, ◌≤◌, ℕ, List, All, length, Option, Some, Ok}
+use Rattle.std.specs.Prelude.{◌≡◌, ◌≤◌, ℕ, List, length, map, Option, Some, Ok}
 use Rattle.std.specs.Io.KnownBytes.{Keeps}
 use Rattle.plan_reader.specs.declared.plan.Plan.{Plan}
 use Rattle.replay.specs.Reports.{ArePacketsBy, HasPlan}
 use Rattle.ntuple_rules.specs.Ranges.{RulesAreWithin as AreWithin}
 use Rattle.ntuple_rules.specs.Readings.{rules_of}
 use Rattle.ntuple_rules.specs.declared.rules.Rules.{Rules}
-use Rattle.pcap_reader.specs.Captures.{FrameIsWithin}
+use Rattle.pcap_reader.specs.Captures.{frame_of}
 use Rattle.pcap_reader.specs.declared.capture.Capture.{Capture}
 use Rattle.steer_base.specs.declared.limits.TheConstants.{MAX_PACKETS}
 use Rattle.steer_model.specs.State.Ranges.{AreOfFlows}
@@ -15,16 +15,20 @@ use Rattle.steer_top.specs.Files.{limit_of}
 use Rattle.steer_top.specs.declared.ending.Role.TheVariants as role
 use Rattle.steer_top.specs.Words.{PlanWords}
 use Rattle.steer_top.specs.declared.file.CapturedPackets.{CapturedPackets}
-use Rattle.steer_top.specs.declared.file.CaptureFile.{CaptureFile}
 use Rattle.steer_top.specs.declared.input.Input.{Input}
 
--- The bytes are those of the file, within the limit, and the capture is theirs.
-pub record IsCaptureOf (held : Option (List ℕ)) (file : CaptureFile) : Type 0 where
-  pub whole : Keeps held (Some file.bytes.items)
-  pub few : length file.bytes.items ≤ limit_of role.Capture
-  pub has : HasAnyCapture file.bytes.items file.capture
-  pub few_records : length file.capture.records ≤ MAX_PACKETS
-  pub within : All (FrameIsWithin file.bytes.items) file.capture.records
+-- From what it was at first, a sink has taken the frames of the capture in some bytes that the file
+-- may have, within the limit, and the cut is that of this capture. `takes` is the sink's relation.
+pub record AreFramesOf {F : Type 0} (takes : F → List (List ℕ) → F → Type 0)
+    (held : Option (List ℕ)) (first : F) (cut : Option ℕ) (sink : F) : Type 0 where
+  pub bytes : List ℕ
+  pub whole : Keeps held (Some bytes)
+  pub few : length bytes ≤ limit_of role.Capture
+  pub capture : Capture
+  pub has : HasAnyCapture bytes capture
+  pub taken : takes first (map (frame_of bytes) capture.records) sink
+  pub cut_is : cut ≡ capture.cut
+  pub few_records : length capture.records ≤ MAX_PACKETS
 
 -- The packets are those that a plan makes of the capture in some bytes that the file may have,
 -- within the limit, and the cut is that of this capture.

@@ -2,8 +2,9 @@
 ghost use Rattle.std.specs.Prelude.{◌≡◌, ◌≤◌};
 ghost use Rattle.outside_io.specs.declared.reading.TheConstants.{MAX_FILE};
 ghost use Rattle.steer_top.specs.Files.{limit_of};
-ghost use Rattle.steer_top.specs.Endings.{EndsAs, name_of_role};
+ghost use Rattle.steer_top.specs.Endings.{EndsAs, ending_of_stream, name_of_role};
 
+use capture_stream::StreamFault;
 use outside_io::MAX_FILE;
 use pcap_reader::CaptureFault;
 use pcapng_reader::NgFault;
@@ -83,17 +84,20 @@ pub enum Ending {
 }
 
 impl Ending {
-    /// How a command ends that got no capture from its bytes: with a refusal, or out of memory.
-    pub fn of_fault(fault: CaptureFault) -> Ending
-        ensures { EndsAs fault CaptureFault.OutOfMemory (Refusal.Capture fault) result }
+    /// How a command ends that could not read its capture: refused, by a fault, or out of memory.
+    pub fn of_stream_fault(fault: StreamFault) -> Ending
+        ensures { result ≡ ending_of_stream fault }
     {
         match fault {
-            CaptureFault::OutOfMemory => Ending::OutOfMemory,
-            fault => Ending::Refuses(Refusal::Capture(fault)),
+            StreamFault::Unread => Ending::ReadFault,
+            StreamFault::TooLong => Ending::Refuses(Refusal::TooLong(Role::Capture)),
+            StreamFault::OutOfMemory => Ending::OutOfMemory,
+            StreamFault::Classic(fault) => Ending::Refuses(Refusal::Capture(fault)),
+            StreamFault::Ng(fault) => Ending::Refuses(Refusal::Pcapng(fault)),
         }
     }
 
-    /// The same of the bytes of a plan.
+    /// How a command ends that got no plan from its bytes: with a refusal, or out of memory.
     pub fn of_plan_fault(fault: PlanFault) -> Ending
         ensures { EndsAs fault PlanFault.OutOfMemory (Refusal.Plan fault) result }
     {
@@ -110,16 +114,6 @@ impl Ending {
         match fault {
             PlanFault::OutOfMemory => Ending::OutOfMemory,
             fault => Ending::Refuses(Refusal::Rules(fault)),
-        }
-    }
-
-    /// The same of the bytes of a pcapng file.
-    pub fn of_pcapng_fault(fault: NgFault) -> Ending
-        ensures { EndsAs fault NgFault.OutOfMemory (Refusal.Pcapng fault) result }
-    {
-        match fault {
-            NgFault::OutOfMemory => Ending::OutOfMemory,
-            fault => Ending::Refuses(Refusal::Pcapng(fault)),
         }
     }
 }

@@ -1,27 +1,21 @@
-//! A file of a command, read whole and taken for what it is read as.
-ghost use Rattle.std.specs.Prelude.{◌≡◌, ◌≤◌, Some, IfOk, IfErr, length};
+//! A file of a command, taken for what it is read as. A capture is read in pieces, others whole.
+ghost use Rattle.std.specs.Prelude.{◌≡◌, ◌≤◌, [], Some, IfOk, IfErr, length};
 ghost use Rattle.std.specs.Io.KnownBytes.{Keeps};
 ghost use Rattle.outside_io.specs.Desk.{GoesOnTelling};
 ghost use Rattle.steer_top.specs.Files.{limit_of};
 ghost use Rattle.steer_top.specs.Endings.{EndsAt, EndsUnread};
-ghost use Rattle.steer_top.specs.Taken.{ArePacketsOf, IsCaptureOf, IsPlanOf, IsRulesOf};
+ghost use Rattle.steer_top.specs.Taken.{AreFramesOf, ArePacketsOf, IsPlanOf, IsRulesOf};
 
-use crate::capture::read_any;
 use crate::ending::{Ending, Refusal, Role};
+use capture_stream::read_frames;
 use ntuple_rules::{Rules, read_rules};
 use outside_io::{Desk, ReadWhole, read_whole};
-use pcap_reader::Capture;
+use pcap_reader::FrameSink;
 use plan_reader::{Plan, read_plan};
-use replay::packets_by;
 use std::alloc::Global;
-use steer_base::{OutOfMemory, Packet};
-
-/// The bytes of a file, and the capture that they are.
-#[derive(Drop)]
-pub struct CaptureFile {
-    pub bytes: Vec<u8>,
-    pub capture: Capture,
-}
+use steer_base::Packet;
+use steer_model::PacketList;
+use toeplitz::{Key, Kinds};
 
 /// The packets of a capture, and the length of its cut record.
 #[derive(Drop)]
@@ -54,9 +48,17 @@ fn read_file<D: Desk>(
     }
 }
 
-/// The capture of a file with its bytes, or how the command ends without it.
-pub fn take_capture<D: Desk>(alloc: Global, name: &str, desk: &mut D) -> Result<CaptureFile, Ending>
-    ensures taken { IfOk result (IsCaptureOf (D.held desk.old name.now)) }
+/// Hands the frames of the capture of a file to the sink, and returns the length of its cut record,
+/// or how the command ends without them. The file is read in pieces and not held.
+pub fn take_frames<D: Desk, F: FrameSink>(
+    alloc: Global,
+    name: &str,
+    desk: &mut D,
+    sink: &mut F,
+) -> Result<Option<u32>, Ending>
+    requires { F.takes sink.old [] sink.old }
+    ensures taken { IfOk result (λ cut.
+        AreFramesOf F.takes (D.held desk.old name.now) sink.old cut sink.new) }
     ensures ends { IfErr result (λ ending. EndsAt ending Role.Capture name.now
         (D.held desk.old name.now) (D.faults desk.old) (D.faults desk.new) (D.asked desk.new)) }
 
@@ -64,18 +66,13 @@ pub fn take_capture<D: Desk>(alloc: Global, name: &str, desk: &mut D) -> Result<
     ensures told { GoesOnTelling (D.left desk.old) (D.left desk.new) }
     ensures later { D.faults desk.old ≤ D.faults desk.new }
 {
-    let bytes = match read_file(alloc, Role::Capture, name, desk) {
-        Ok(bytes) => bytes,
-        Err(ending) => return Err(ending),
-    };
-    match read_any(alloc, &bytes) {
-        Ok(capture) => Ok(CaptureFile { bytes, capture }),
-        Err(ending) => Err(ending),
+    match read_frames(alloc, desk, name, Role::Capture.limit(), sink) {
+        Ok(cut) => Ok(cut),
+        Err(fault) => Err(Ending::of_stream_fault(fault)),
     }
 }
 
 /// The packets that a plan makes of the capture of a file, or how the command ends without them.
-/// The bytes of the file are given up.
 pub fn take_packets<D: Desk>(
     alloc: Global,
     plan: &Plan,
@@ -90,16 +87,16 @@ pub fn take_packets<D: Desk>(
     ensures told { GoesOnTelling (D.left desk.old) (D.left desk.new) }
     ensures later { D.faults desk.old ≤ D.faults desk.new }
 {
-    let file = match take_capture(alloc, name, desk) {
-        Ok(file) => file,
-        Err(ending) => return Err(ending),
+    let key = Key::make(plan.key);
+    let Ok(mut packets) = PacketList::make(alloc, &key, Kinds(plan.kinds), 0) else {
+        return Err(Ending::OutOfMemory);
     };
-    match packets_by(alloc, plan, &file.capture, &file.bytes) {
-        Ok(packets) => Ok(CapturedPackets {
-            packets,
-            cut: file.capture.cut,
+    match take_frames(alloc, name, desk, &mut packets) {
+        Ok(cut) => Ok(CapturedPackets {
+            packets: packets.into_packets(),
+            cut,
         }),
-        Err(OutOfMemory) => Err(Ending::OutOfMemory),
+        Err(ending) => Err(ending),
     }
 }
 

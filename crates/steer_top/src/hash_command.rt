@@ -1,4 +1,4 @@
-//! The command `hash`: reads the capture whole, then writes one line per packet.
+//! The command `hash`: keeps the flow of each frame of a capture, then writes a line per packet.
 ghost use Rattle.std.specs.Prelude.{◌≡◌, ◌≤◌, ℕ, List};
 ghost use Rattle.outside_io.specs.Desk.{GoesOnTelling};
 ghost use Rattle.replay.specs.Meanings.{Meaning};
@@ -9,14 +9,14 @@ ghost use Rattle.steer_top.specs.Words.CommandWords.{Hash};
 
 use crate::command::HashCommand;
 use crate::ending::Ending;
-use crate::file::take_capture;
+use crate::file::take_frames;
 use crate::hasher::Hasher;
 use crate::writing::write_lines;
 use outside_io::{Desk, Sink};
 use std::alloc::Global;
 use steer_base::OutOfMemory;
 
-/// Reads the capture, takes all memory, and writes the text.
+/// Reads the capture and writes the text.
 pub fn hash_file<D: Desk, K: Sink>(
     alloc: Global,
     command: &HashCommand,
@@ -32,12 +32,12 @@ pub fn hash_file<D: Desk, K: Sink>(
     ensures desk_later { D.faults desk.old ≤ D.faults desk.new }
     ensures out_later { K.faults out.old ≤ K.faults out.new }
 {
-    let file = match take_capture(alloc, command.capture, desk) {
-        Ok(file) => file,
-        Err(ending) => return ending,
+    let mut hasher = match Hasher::make(alloc, command.queues, command.kinds) {
+        Ok(hasher) => hasher,
+        Err(OutOfMemory) => return Ending::OutOfMemory,
     };
-    match Hasher::make(alloc, command.queues, command.kinds) {
-        Ok(hasher) => write_lines(alloc, &hasher, &file, out),
-        Err(OutOfMemory) => Ending::OutOfMemory,
+    match take_frames(alloc, command.capture, desk, &mut hasher) {
+        Ok(cut) => write_lines(alloc, &hasher, cut, out),
+        Err(ending) => ending,
     }
 }

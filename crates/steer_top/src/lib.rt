@@ -1,11 +1,11 @@
 //! The top call of the replayer: words in, one text and one status out.
 #![tactic(auto)]
 
-mod capture;
 mod check_command;
 mod command;
 mod ending;
 mod file;
+mod flow_list;
 mod flushing;
 mod gen_command;
 mod hash_command;

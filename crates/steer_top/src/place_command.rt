@@ -1,4 +1,5 @@
-//! The command `place`: reads the rules, then the capture, and then writes one line per packet.
+//! The command `place`: reads the rules, keeps the flow of each frame of the capture, and then
+//! writes one line per packet.
 ghost use Rattle.std.specs.Prelude.{◌≡◌, ◌≤◌, ℕ, List};
 ghost use Rattle.outside_io.specs.Desk.{GoesOnTelling};
 ghost use Rattle.replay.specs.Meanings.{Meaning};
@@ -9,14 +10,14 @@ ghost use Rattle.steer_top.specs.Words.CommandWords.{Place};
 
 use crate::command::PlaceCommand;
 use crate::ending::Ending;
-use crate::file::{take_capture, take_rules};
+use crate::file::{take_frames, take_rules};
 use crate::placer::Placer;
 use crate::writing::write_lines;
 use outside_io::{Desk, Sink};
 use std::alloc::Global;
 use steer_base::OutOfMemory;
 
-/// Reads the rules and the capture, takes all memory, and writes the text.
+/// Reads the rules and the capture, and writes the text.
 pub fn place_file<D: Desk, K: Sink>(
     alloc: Global,
     command: &PlaceCommand,
@@ -36,12 +37,12 @@ pub fn place_file<D: Desk, K: Sink>(
         Ok(rules) => rules,
         Err(ending) => return ending,
     };
-    let file = match take_capture(alloc, command.capture, desk) {
-        Ok(file) => file,
-        Err(ending) => return ending,
+    let mut placer = match Placer::make(alloc, rules) {
+        Ok(placer) => placer,
+        Err(OutOfMemory) => return Ending::OutOfMemory,
     };
-    match Placer::make(alloc, rules) {
-        Ok(placer) => write_lines(alloc, &placer, &file, out),
-        Err(OutOfMemory) => Ending::OutOfMemory,
+    match take_frames(alloc, command.capture, desk, &mut placer) {
+        Ok(cut) => write_lines(alloc, &placer, cut, out),
+        Err(ending) => ending,
     }
 }

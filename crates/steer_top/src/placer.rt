@@ -1,14 +1,18 @@
-//! What the command `place` works out of a frame.
-ghost use Rattle.std.specs.Prelude.{◌≡◌, ◌≤◌, ◌+◌, ◌++◌, [], length, IfOk};
+//! What the command `place` works out of the frames of a capture.
+ghost use Rattle.std.specs.Prelude.{◌≡◌, ◌≤◌, ◌+◌, ◌++◌, [], length, get_or, IfOk};
 ghost use Rattle.ntuple_rules.specs.Ranges.{RulesAreWithin};
 ghost use Rattle.rss_table.specs.Redirection.{even_table};
-ghost use Rattle.steer_top.specs.PlaceText.{hash_for, place_line, placed_flow, queue_by, rule_text};
+ghost use Rattle.steer_base.specs.declared.flow.Flow.TheVariants.{Bare};
+ghost use Rattle.steer_top.specs.PlaceText.{hash_for, placed_flow, placed_line, queue_by};
+ghost use Rattle.steer_top.specs.PlaceText.{rule_text};
 ghost use Rattle.toeplitz.specs.Toeplitz.{verification_key};
 
+use crate::flow_list::FlowList;
 use crate::hash_line::push_packet;
 use crate::writing::PacketLine;
 use flow_dissector::dissect;
 use ntuple_rules::{Classifier, Rules, fold};
+use pcap_reader::FrameSink;
 use report::LineBuf;
 use rss_table::Reta;
 use std::alloc::Global;
@@ -16,23 +20,28 @@ use steer_base::{Flow, OutOfMemory, RxQueue};
 use toeplitz::{Kinds, TabledKey, verification_key};
 use tunnel_dissector::{Inner, dissect_inner};
 
-/// The rules with their groups, the verification key, and the even table over the queues.
+/// The rules with their groups, the verification key, and the even table over the queues, and of
+/// each frame that was taken the flow and how many levels were entered to reach it.
 #[derive(Drop)]
 pub struct Placer {
     rules: Rules,
     classifier: Classifier,
     key: TabledKey,
     table: Reta,
+    flows: FlowList,
+    depths: Vec<u8>,
     ghost all: { classifier ≡ rules.rules },
     ghost verified: { key ≡ verification_key },
     ghost even: { table ≡ even_table rules.queues },
 }
 
 impl Placer {
-    /// Takes memory for the groups of the rules and for the table of the key.
+    /// Takes memory for the groups of the rules and for the table of the key. There are no flows.
     pub fn make(alloc: Global, rules: Rules) -> Result<Placer, OutOfMemory>
         requires { RulesAreWithin rules }
-        ensures { IfOk result (λ placer. placer.rules ≡ rules) }
+        ensures rules { IfOk result (λ placer. placer.rules ≡ rules) }
+        ensures empty { IfOk result (λ placer. placer.flows ≡ []) }
+        ensures no_depths { IfOk result (λ placer. placer.depths.items ≡ []) }
     {
         let classifier = Classifier::make(alloc, &rules)?;
         let key = TabledKey::make(alloc, &verification_key())?;
@@ -42,6 +51,8 @@ impl Placer {
             classifier,
             key,
             table,
+            flows: FlowList::new(alloc),
+            depths: Vec::new(alloc),
         })
     }
 
@@ -57,6 +68,13 @@ impl Placer {
                 depth: 0,
             }
         }
+    }
+
+    /// How many levels were entered for the packet with this number.
+    fn depth_of(&self, number: usize) -> u8
+        ensures { result ≡ get_or self.now.depths.items number 0 }
+    {
+        self.depths.as_slice().get(number).copied().unwrap_or(0)
     }
 
     /// The hash of a flow.
@@ -101,20 +119,42 @@ fn push_rule(line: &mut LineBuf, found: Option<u32>)
     }
 }
 
-impl PacketLine for Placer {
-    ghost text = { λ placer. place_line placer.rules };
+impl FrameSink for Placer {
+    ghost use Rattle.steer_top.specs.FrameLists.{TakesPlaced};
 
-    /// Puts the line of a frame in an empty line.
-    #[tactic(auto, unfolding(crate::specs::PlaceText::place_line))]
-    fn push_frame(&self, line: &mut LineBuf, number: u64, frame: &[u8]) {
+    ghost takes = { TakesPlaced };
+
+    /// Appends the flow of a frame, and how many levels were entered.
+    fn take(&mut self, frame: &[u8]) -> Result<(), OutOfMemory> {
         let placed = self.flow_of(frame);
-        let found = self.classifier.find(&placed.flow);
-        let hash = self.hash_of(&placed.flow);
+        self.flows.push(placed.flow)?;
+        self.depths.push(placed.depth)?;
+        Ok(())
+    }
+}
+
+impl PacketLine for Placer {
+    ghost count = { λ placer. length placer.flows };
+
+    ghost text = { λ placer number. placed_line placer.rules number (record {
+      flow = get_or placer.flows number Bare;
+      depth = get_or placer.depths.items number 0;
+    }) };
+
+    fn len(&self) -> usize {
+        self.flows.len()
+    }
+
+    #[tactic(auto, unfolding(crate::specs::PlaceText::placed_line))]
+    fn push_line(&self, line: &mut LineBuf, number: usize) {
+        let flow = self.flows.get(number);
+        let found = self.classifier.find(&flow);
+        let hash = self.hash_of(&flow);
         let queue = self.queue_by(found, hash);
-        push_packet(line, number, &placed.flow, hash, queue);
+        push_packet(line, number as u64, &flow, hash, queue);
         push_rule(line, found);
         line.push(b" depth ");
-        line.push_decimal(u64::from(placed.depth));
+        line.push_decimal(u64::from(self.depth_of(number)));
         line.push(b"\n");
     }
 }

@@ -17,8 +17,8 @@ use std::alloc::Global;
 use steer_base::OutOfMemory;
 use taps::Tap;
 
-/// Reads the plan and the capture, takes all memory, and writes the report. The file is dropped
-/// before the first step.
+/// Reads the plan and the capture, takes all memory, and writes the report. The capture is not
+/// held.
 pub fn replay_file<D: Desk, K: Sink>(
     alloc: Global,
     command: &PlanCommand,
