@@ -11,7 +11,7 @@ use crate::told::START;
 use crate::worker::{PACKETS, Worker};
 use board_api::{BoardLists, BoardSeat};
 use hop_board::Board;
-use hop_core::HopShape;
+use hop_model::HopShape;
 use std::alloc::Global;
 use steer_base::CpuMask;
 

@@ -4,7 +4,7 @@ ghost use Rattle.std.specs.Prelude.{◌≡◌};
 use crate::equal::same;
 use board_api::{CloseAnswer, Emptied, EnterAnswer, Hold, LaneId};
 use hop_board::Board;
-use hop_core::HopShape;
+use hop_model::HopShape;
 use std::alloc::Global;
 use std::process::Abort;
 use std::test::Fail;

@@ -5,7 +5,7 @@ ghost use Rattle.hop_rule.specs.declared.sizes.TheConstants.{MAX_BOARD_ROOM};
 use crate::equal::same;
 use board_api::BoardLists;
 use hop_board::Board;
-use hop_core::HopShape;
+use hop_model::HopShape;
 use std::alloc::Global;
 use std::test::Fail;
 use steer_base::{CpuMask, OutOfMemory};

@@ -17,7 +17,7 @@ use Rattle.steer_base.specs.declared.put.Put.TheVariants.{At}
 use Rattle.dev_flow_table.specs.Folds.{IsPutAt}
 use Rattle.dev_flow_table.specs.Tables.{IsClassOf, Table, cleared, unset}
 use Rattle.dev_flow_table.proofs.FoldsLemmas.{table_is_entries}
-use Rattle.hop_core.specs.Hop.{nobody}
+use Rattle.hop_model.specs.Hop.{nobody}
 use Rattle.history.specs.Lists.{arrivals_at, list_at}
 use Rattle.history.specs.Regular.{Regular}
 use Rattle.history.specs.declared.history.History.{History}

@@ -10,7 +10,7 @@ use Rattle.std.proofs.lemmas.Option.{get_or_from_slice_get, slice_get-get_or, sl
 use Rattle.steer_base.specs.Arrivals.{filter_place, route, table_place}
 use Rattle.steer_base.specs.Filters.{home_queue}
 use Rattle.steer_base.specs.declared.choice.Chosen.{Chosen}
-use Rattle.hop_core.specs.Hop.{nobody}
+use Rattle.hop_model.specs.Hop.{nobody}
 use Rattle.history.specs.Lists.{list_at}
 use Rattle.history.specs.Regular.{route_of}
 use Rattle.history.specs.declared.arrival.Arrival.{Arrival}

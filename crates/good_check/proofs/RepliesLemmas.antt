@@ -26,7 +26,7 @@ use Rattle.steer_base.specs.declared.put.Put.TheVariants.{At}
 use Rattle.dev_flow_table.specs.Folds.{IsPutAt}
 use Rattle.dev_flow_table.specs.Tables.{cleared}
 use Rattle.dev_flow_table.proofs.FoldsLemmas.{table_is_entries}
-use Rattle.hop_core.specs.Hop.{chosen_at, nobody}
+use Rattle.hop_model.specs.Hop.{chosen_at, nobody}
 use Rattle.history.specs.Finding.{is_among, is_in}
 use Rattle.history.specs.Known.{IsKnown}
 use Rattle.history.specs.Lines.{accepted_place, tx_choice_of}

@@ -12,7 +12,7 @@ use Rattle.std.proofs.lemmas.Option.{get_or_from_slice_get, slice_get-get_or, sl
 use Rattle.std.proofs.lemmas.List.{get_or_default}
 use Rattle.steer_base.specs.Choices.{class_of}
 use Rattle.steer_base.specs.declared.choice.Chosen.{Chosen}
-use Rattle.hop_core.specs.Hop.{chosen_at, nobody}
+use Rattle.hop_model.specs.Hop.{chosen_at, nobody}
 use Rattle.history.specs.Lists.{list_at}
 use Rattle.history.specs.declared.history.History.{History}
 use Rattle.history.specs.declared.sock_write.SockWrite.{SockWrite}

@@ -2,7 +2,7 @@
 use Rattle.std.specs.Prelude.{ℕ, ◌≡◌, ◌≤◌, ◌<◌, ◌⊎◌, List, Some, slice_index}
 use Rattle.steer_base.specs.Counters.{distance}
 use Rattle.steer_base.specs.declared.choice.Chosen.{Chosen}
-use Rattle.hop_core.specs.Hop.{chosen_at}
+use Rattle.hop_model.specs.Hop.{chosen_at}
 use Rattle.history.specs.Lists.{lane_at}
 use Rattle.history.specs.declared.lane_list.LaneList.{LaneList}
 use Rattle.steer_model.specs.Good.Choices.{lane_seen}

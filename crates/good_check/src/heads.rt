@@ -3,7 +3,7 @@ ghost use Rattle.std.specs.Prelude.{ℕ, ◌≡◌, ◌+◌, ◌<◌, List, IfOk
 ghost use Rattle.std.specs.Prelude.{vec_len};
 ghost use Rattle.steer_base.specs.Counters.{distance};
 ghost use Rattle.steer_base.specs.declared.choice.Chosen.{Chosen as AChosen};
-ghost use Rattle.hop_core.specs.Hop.{chosen_at};
+ghost use Rattle.hop_model.specs.Hop.{chosen_at};
 ghost use Rattle.history.specs.Lists.{lane_at, list_at};
 ghost use Rattle.steer_model.specs.Good.Choices.{HeadsRise, lane_of_class, lane_seen};
 ghost use Rattle.rule_check.specs.Currents.{AreCurrent};

@@ -13,7 +13,7 @@ ghost use Rattle.hand_tests.specs.Benches.{IsBench, IsFresh, IsWorker, Rests, op
 use board_api::BoardSeat;
 use hint_words::{HintSeat, Hints};
 use hop_board::Board;
-use hop_core::HopShape;
+use hop_model::HopShape;
 use plan_reader::Plan;
 use rtrb::{Producer, RingBuffer};
 use run_words::{Shared, first_receive_settings, word_count};

@@ -11,7 +11,7 @@ use crate::hands::{announce, arrive, drain, poll};
 use board_api::BoardSeat;
 use hint_words::HintSeat;
 use hop_board::Board;
-use hop_core::{HopShape, MAX_HOP_ROOM};
+use hop_model::{HopShape, MAX_HOP_ROOM};
 use plan_reader::{Plan, read_plan};
 use run_words::{Shared, first_transmit_settings};
 use run_workers::Server;

@@ -3,7 +3,7 @@ use Rattle.std.proofs.Common.{ℕ, zero, suc, ◌≡◌, true, false, Bool, cond
 use Rattle.std.proofs.Common.{Option, Some, None, length, refl, ap, ◌∙◌, sym}
 use Rattle.steer_base.specs.declared.step.Step.{Step}
 use Rattle.steer_base.specs.declared.step.Step.TheVariants as act
-use Rattle.steer_model.specs.Origins.TableWrites.{after_events}
+use Rattle.step_laws.specs.Origins.TableWrites.{after_events}
 use Rattle.steer_model.specs.State.Machine.{Machine}
 use Rattle.steer_model.specs.Steps.CompoundSteps.{Progress, after, again, drain, drain_one}
 use Rattle.steer_model.specs.Steps.CompoundSteps.{for_each, most_rounds, one_round, poll, reply}

@@ -10,7 +10,7 @@ use Rattle.history.specs.Lists.{list_at, packet_at}
 use Rattle.history.specs.declared.arrival.Arrival.{Arrival}
 use Rattle.history.specs.declared.history.History.{History}
 use Rattle.history.specs.declared.sock_write.SockWrite.{SockWrite}
-use Rattle.hop_core.specs.Hop.{Bare, Fixed, accepted_at, lane_of, pulled_at}
+use Rattle.hop_model.specs.Hop.{Bare, Fixed, accepted_at, lane_of, pulled_at}
 use Rattle.plan_reader.specs.Settings.{IsWithin}
 use Rattle.steer_base.specs.Arrivals.{Route}
 use Rattle.steer_base.specs.Counters as counters
@@ -26,7 +26,7 @@ use Rattle.steer_base.specs.declared.step.Step.{Step}
 use Rattle.steer_model.specs.Good.Arrivals.{SeenBy}
 use Rattle.steer_model.specs.Good.Inputs.{Input, WasDone, setup_in}
 use Rattle.steer_model.specs.Good.Writes.{StoodAt}
-use Rattle.steer_model.specs.Origins.TableWrites.{after_events}
+use Rattle.step_laws.specs.Origins.TableWrites.{after_events}
 use Rattle.steer_model.specs.State.Machine.{Machine}
 use Rattle.steer_model.specs.State.Setup.{packet_hash}
 use Rattle.steer_model.specs.State.Start.{fresh_rx, replayed, steps_of}

@@ -17,7 +17,7 @@ use Rattle.history.specs.declared.commanded.Commanded.{Commanded}
 use Rattle.history.specs.declared.history.History.{History}
 use Rattle.history.specs.declared.lane_list.LaneList.{LaneList}
 use Rattle.history.specs.declared.sent.Sent.{Sent}
-use Rattle.hop_core.specs.Hop.{chosen_at, nobody}
+use Rattle.hop_model.specs.Hop.{chosen_at, nobody}
 use Rattle.hop_core.proofs.Standing.{current_lane-in}
 use Rattle.steer_base.specs.Arrivals.{IsRoute}
 use Rattle.steer_base.specs.Choices.{by_entry}

@@ -4,7 +4,7 @@ use Rattle.std.proofs.Common.{None, length, refl, ap, ◌∙◌, sym, subst, ari
 use Rattle.std.specs.Prelude.{slice_get, slice_index}
 use Rattle.std.proofs.lemmas.Bool.{cases_eq}
 use Rattle.history.specs.declared.arrival.Arrival.{Arrival}
-use Rattle.hop_core.specs.Hop.{arrivals_of, choices_of, next_of, taken_of}
+use Rattle.hop_model.specs.Hop.{arrivals_of, choices_of, next_of, taken_of}
 use Rattle.hop_core.proofs.Lists.{Changed-set}
 use Rattle.steer_base.specs.declared.choice.Chosen.{Chosen}
 use Rattle.steer_base.specs.declared.step.Step.{Step}

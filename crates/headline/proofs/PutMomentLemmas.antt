@@ -3,9 +3,10 @@ use Rattle.std.proofs.Common.{ℕ, ◌<◌, ◌≡◌, ◌⊎◌, List, [], ◌�
 use Rattle.std.proofs.Common.{None, length, refl, ap, ◌∙◌, sym, subst, arith, inl, inr, get_or}
 use Rattle.std.specs.Prelude.{slice_get}
 use Rattle.std.proofs.lemmas.Bool.{cases_eq}
-use Rattle.hop_core.specs.Hop.{Fixed, HopState, accepted_at, choices_of, drops_at, dropped, in_hand}
-use Rattle.hop_core.specs.Hop.{lane_of, placed_of, put_one}
-use Rattle.hop_core.specs.Sound.{Sound}
+use Rattle.hop_model.specs.Hop.{Fixed, HopState, accepted_at, choices_of, drops_at, dropped}
+use Rattle.hop_model.specs.Hop.{in_hand}
+use Rattle.hop_model.specs.Hop.{lane_of, placed_of, put_one}
+use Rattle.hop_model.specs.Sound.{Sound}
 use Rattle.hop_core.proofs.Lists.{Changed-set}
 use Rattle.hop_core.proofs.PutSteps.{put_as}
 use Rattle.steer_base.specs.Drops.{bucket_of, lane_drop_cause}

@@ -18,7 +18,7 @@ use Rattle.steer_invariant.proofs.StepInvariant.StepLemmas.{flow_small}
 use Rattle.steer_invariant.proofs.TurnLiftLemmas.{AreTried, drain-tried, is_tried, poll-tried}
 use Rattle.steer_invariant.proofs.TurnLiftLemmas.{reply-tried, ship-tried}
 use Rattle.steer_model.specs.Good.Inputs.{Input, setup_in}
-use Rattle.steer_model.specs.Origins.TableWrites.{after_events}
+use Rattle.step_laws.specs.Origins.TableWrites.{after_events}
 use Rattle.steer_model.specs.State.Machine.{Machine}
 use Rattle.steer_model.specs.State.Setup.{Setup, flow_number_of}
 use Rattle.steer_model.specs.State.Start.{replayed, steps_of}

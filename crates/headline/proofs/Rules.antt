@@ -11,7 +11,7 @@ use Rattle.history.specs.Lists.{lane_at, list_at, no_lane}
 use Rattle.history.specs.declared.history.History.{History}
 use Rattle.history.specs.declared.lane_list.LaneList.{LaneList}
 use Rattle.history.specs.declared.sent.Sent.{Sent}
-use Rattle.hop_core.specs.Hop.{chosen_at, nobody}
+use Rattle.hop_model.specs.Hop.{chosen_at, nobody}
 use Rattle.steer_base.specs.Choices.{has_moved}
 use Rattle.steer_base.specs.Moves.{MayLeave, MovesByThree}
 use Rattle.steer_base.specs.declared.choice.Choice.{Choice}

@@ -4,19 +4,19 @@ use Rattle.std.proofs.Common.{ℕ, ◌+◌, ◌≤◌, ◌<◌, ◌≡◌, List,
 use Rattle.std.proofs.Common.{length, take, drop, refl, ap, ◌∙◌, sym, subst, arith, zero, suc}
 use Rattle.std.proofs.Math.Seq.{take-length}
 use Rattle.std.proofs.lemmas.List.{length_push, take-append-le, take_all}
-use Rattle.hop_core.specs.Hop.{pulled_at}
+use Rattle.hop_model.specs.Hop.{pulled_at}
 use Rattle.steer_base.specs.Entries.{last_or}
 use Rattle.steer_base.specs.HashTables.{place_in_rows, row_at}
 use Rattle.steer_base.specs.declared.step.Step.{Step}
 use Rattle.steer_model.specs.Good.Inputs.{Input}
-use Rattle.steer_model.specs.Origins.TableWrites.{after_events, socket_at, socket_write, writes_of}
+use Rattle.step_laws.specs.Origins.TableWrites.{after_events, socket_at, socket_write, writes_of}
 use Rattle.steer_model.specs.State.Machine.{Machine}
 use Rattle.steer_model.specs.State.Settings.{class_at}
 use Rattle.steer_model.specs.State.Setup.{packet_hash}
 use Rattle.steer_model.specs.Steps.Pollers.{seen_by, socket_seen}
 use Rattle.steer_model.specs.Steps.SingleSteps.{simple}
-use Rattle.steer_model.proofs.Origins.TableWriteLemmas.{entries_are_last_writes}
-use Rattle.steer_model.proofs.Origins.TableWriteLemmas.{tables_start_unset}
+use Rattle.step_laws.proofs.Origins.TableWriteLemmas.{entries_are_last_writes}
+use Rattle.step_laws.proofs.Origins.TableWriteLemmas.{tables_start_unset}
 use Rattle.steer_properties.proofs.Histories.PutKindLemmas.{pulled-rises}
 use Rattle.headline.specs.Moments.{Moment, last_want, left_for, start_of, state_at}
 

@@ -4,7 +4,7 @@ use Rattle.std.specs.Prelude.{ℕ, ◌≡◌, List, [], ◌∷◌, ◌++◌, Opt
 use Rattle.std.specs.Prelude.{if◌then◌else◌, false}
 use Rattle.steer_base.specs.declared.step.Step.{Step}
 use Rattle.steer_base.specs.declared.step.Step.TheVariants as act
-use Rattle.steer_model.specs.Origins.TableWrites.{after_events}
+use Rattle.step_laws.specs.Origins.TableWrites.{after_events}
 use Rattle.steer_model.specs.State.Machine.{Machine}
 use Rattle.steer_model.specs.State.Setup.{flow_number_of}
 use Rattle.steer_model.specs.Steps.CompoundSteps.{after, drain_one, most_rounds, one_round}

@@ -5,7 +5,7 @@ use Rattle.std.specs.Prelude.{ℕ, suc, ◌≡◌, ◌+◌, ◌<◌, ◌≤◌, 
 use Rattle.history.specs.Lists.{lane_at, list_at}
 use Rattle.history.specs.declared.history.History.{History}
 use Rattle.history.specs.declared.lane_list.LaneList.{LaneList}
-use Rattle.hop_core.specs.Hop.{chosen_at}
+use Rattle.hop_model.specs.Hop.{chosen_at}
 use Rattle.steer_base.specs.Counters.{distance}
 use Rattle.steer_base.specs.declared.choice.Chosen.{Chosen}
 use Rattle.steer_base.specs.declared.put.LaneDrop.{LaneDrop}

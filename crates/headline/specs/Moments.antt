@@ -5,8 +5,8 @@ use Rattle.std.specs.Prelude.{length, slice_get, take}
 use Rattle.history.specs.Lists.{lane_at, list_at}
 use Rattle.history.specs.declared.arrival.Arrival.{Arrival}
 use Rattle.history.specs.declared.history.History.{History}
-use Rattle.hop_core.specs.Hop.{Fixed, HopState, accepted_at, choice_of, choices_of, drops_at}
-use Rattle.hop_core.specs.Hop.{in_hand, lane_of, next_of, placed_of, pulled_at}
+use Rattle.hop_model.specs.Hop.{Fixed, HopState, accepted_at, choice_of, choices_of, drops_at}
+use Rattle.hop_model.specs.Hop.{in_hand, lane_of, next_of, placed_of, pulled_at}
 use Rattle.steer_base.specs.Choices.{desired_cpu}
 use Rattle.steer_base.specs.Drops.{lane_drop_cause}
 use Rattle.steer_base.specs.Entries.{last_or}
@@ -15,7 +15,7 @@ use Rattle.steer_base.specs.declared.choice.Chosen.{Chosen}
 use Rattle.steer_base.specs.declared.put.LaneDrop.{LaneDrop}
 use Rattle.steer_base.specs.declared.step.Step.{Step}
 use Rattle.steer_model.specs.Good.Inputs.{Input, setup_in}
-use Rattle.steer_model.specs.Origins.TableWrites.{after_events, socket_write, writes_of}
+use Rattle.step_laws.specs.Origins.TableWrites.{after_events, socket_write, writes_of}
 use Rattle.steer_model.specs.State.Machine.{Machine, history_lanes, note_of}
 use Rattle.steer_model.specs.State.Settings.{class_at, plain_lane}
 use Rattle.steer_model.specs.State.Setup.{flow_number_of, packet_hash}

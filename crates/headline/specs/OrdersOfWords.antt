@@ -9,7 +9,7 @@ use Rattle.history.specs.declared.arrival.Arrival.{Arrival}
 use Rattle.history.specs.declared.history.History.{History}
 use Rattle.history.specs.declared.sent.Sent.{Sent}
 use Rattle.history.specs.declared.sock_write.SockWrite.{SockWrite}
-use Rattle.hop_core.specs.Hop.{chosen_at}
+use Rattle.hop_model.specs.Hop.{chosen_at}
 use Rattle.steer_base.specs.Arrivals.{route}
 use Rattle.steer_base.specs.Choices.{class_of}
 use Rattle.steer_base.specs.Counters.{rounded_up}

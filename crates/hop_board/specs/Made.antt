@@ -6,7 +6,7 @@ use Rattle.steer_base.specs.Sets.{has}
 use Rattle.atomic_table.specs.Seated.{TableId}
 use Rattle.backlog.specs.Puts.{new_lane}
 use Rattle.linearization.specs.Seats.{new_seats}
-use Rattle.hop_core.specs.declared.shape.HopShape.{HopShape}
+use Rattle.hop_model.specs.declared.shape.HopShape.{HopShape}
 use Rattle.hop_rule.specs.OutLanes.{out_list}
 use Rattle.hop_rule.specs.declared.sizes.BoardSizes.{BoardSizes}
 use Rattle.hop_rule.specs.declared.step.Slot.TheVariants as slot

@@ -13,7 +13,7 @@ use crate::spare::Spare;
 use atomic_table::Table;
 use backlog::Lane;
 use board_api::{BoardSeat, LaneWord};
-use hop_core::HopShape;
+use hop_model::HopShape;
 use hop_rule::{BoardSizes, OutLane, Slot};
 use linearization::deal;
 use std::alloc::Global;

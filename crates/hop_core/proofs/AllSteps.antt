@@ -2,11 +2,11 @@
 use Rattle.std.proofs.Common.{◌≡◌, false, List, [], ◌∷◌}
 use Rattle.steer_base.specs.Counters.{rounded_up}
 use Rattle.steer_base.specs.Sets.{has}
-use Rattle.hop_core.specs.Hop.{HopState}
-use Rattle.hop_core.specs.Events.{happens, MayAsk, AllMayAsk, run}
-use Rattle.hop_core.specs.declared.event.HopEvent.{HopEvent}
-use Rattle.hop_core.specs.declared.event.HopEvent.TheVariants as event
-use Rattle.hop_core.specs.Sound.{Sound}
+use Rattle.hop_model.specs.Hop.{HopState}
+use Rattle.hop_model.specs.Events.{happens, MayAsk, AllMayAsk, run}
+use Rattle.hop_model.specs.declared.event.HopEvent.{HopEvent}
+use Rattle.hop_model.specs.declared.event.HopEvent.TheVariants as event
+use Rattle.hop_model.specs.Sound.{Sound}
 use Rattle.hop_core.proofs.Cases.{Enabled, by_cases}
 use Rattle.hop_core.proofs.ProducerSteps.{Sound-arrive, Sound-take, Sound-weigh, emptied-all}
 use Rattle.hop_core.proofs.PutSteps.{Sound-put}

@@ -12,10 +12,10 @@ use Rattle.steer_base.specs.Entries.{place_in, position, of_class, is_class, cur
 use Rattle.steer_base.specs.Entries.{recorded_count}
 use Rattle.steer_base.proofs.EntriesLemmas.{current_lane-push}
 use Rattle.steer_base.specs.declared.choice.Chosen.{Chosen}
-use Rattle.hop_core.specs.Hop.{nobody, chosen_at, HopState, accepted_at, retired_at, arrivals_of}
-use Rattle.hop_core.specs.Hop.{choices_of, placed_of, since_of, recent, in_hand}
-use Rattle.hop_core.specs.Standing.{StandsAt}
-use Rattle.hop_core.specs.Sound.{Sound}
+use Rattle.hop_model.specs.Hop.{nobody, chosen_at, HopState, accepted_at, retired_at, arrivals_of}
+use Rattle.hop_model.specs.Hop.{choices_of, placed_of, since_of, recent, in_hand}
+use Rattle.hop_model.specs.Standing.{StandsAt}
+use Rattle.hop_model.specs.Sound.{Sound}
 use Rattle.hop_core.specs.Order.{OnlyAt, OneClass}
 use Rattle.hop_core.proofs.Lists.{front_and_last}
 use Rattle.steer_base.proofs.EntriesLemmas.{of_class-yes}

@@ -3,9 +3,9 @@ use Rattle.std.proofs.Common.{ℕ, ◌+◌, ◌<◌, ◌≡◌, ◌≢◌, ◌�
 use Rattle.std.proofs.Common.{◌∙◌, sym, arith, suc, zero, inl, inr, get_or, map}
 use Rattle.std.specs.Prelude.{slice_index}
 use Rattle.steer_base.specs.Orders.{Apart}
-use Rattle.hop_core.specs.Hop.{HopState, fell_at}
+use Rattle.hop_model.specs.Hop.{HopState, fell_at}
 use Rattle.hop_core.specs.Laws.{fallen, HasPlaces}
-use Rattle.hop_core.specs.Sound.{Distinct, Sound}
+use Rattle.hop_model.specs.Sound.{Distinct, Sound}
 
 -- a list of two rows of lists is one of the first row or one of the second
 append_at : (xs ys : List (List ℕ)) (p : ℕ)

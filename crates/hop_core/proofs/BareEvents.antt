@@ -11,17 +11,17 @@ use Rattle.steer_base.specs.declared.put.DropCause.{DropCause}
 use Rattle.backlog.specs.Puts.{after_put, after_take, new_lane}
 use Rattle.backlog.specs.Rising.{AreRising}
 use Rattle.backlog.proofs.RisingLemmas.{AreRising-new, AreRising-put, AreRising-take}
-use Rattle.hop_core.specs.declared.event.HopEvent.{HopEvent}
-use Rattle.hop_core.specs.declared.event.HopEvent.TheVariants as event
-use Rattle.hop_core.specs.BareEvents.{BareEvent, BareKeepsLanes, EachIsBare, EachKeepsDropsRising}
-use Rattle.hop_core.specs.BareEvents.{EachLaneIsItsOwn, HasLanes, MayBe, FreshDropsRise}
-use Rattle.hop_core.specs.BareEvents.{SoundHasLanes, bare_after, bare_event, lane_after}
-use Rattle.hop_core.specs.BareEvents as bare
-use Rattle.hop_core.specs.Events.{MayAsk, happens}
-use Rattle.hop_core.specs.Hop.{Bare, Fixed, HopState, accepted_at, drops_at, lane_of, landed}
-use Rattle.hop_core.specs.Hop.{offers_at, placed_of, pull_at, pulled_at, put_at}
-use Rattle.hop_core.specs.Shape.{fresh_hop}
-use Rattle.hop_core.specs.Sound.{Sound}
+use Rattle.hop_model.specs.declared.event.HopEvent.{HopEvent}
+use Rattle.hop_model.specs.declared.event.HopEvent.TheVariants as event
+use Rattle.hop_model.specs.BareEvents.{BareEvent, BareKeepsLanes, EachIsBare, EachKeepsDropsRising}
+use Rattle.hop_model.specs.BareEvents.{EachLaneIsItsOwn, HasLanes, MayBe, FreshDropsRise}
+use Rattle.hop_model.specs.BareEvents.{SoundHasLanes, bare_after, bare_event, lane_after}
+use Rattle.hop_model.specs.BareEvents as bare
+use Rattle.hop_model.specs.Events.{MayAsk, happens}
+use Rattle.hop_model.specs.Hop.{Bare, Fixed, HopState, accepted_at, drops_at, lane_of, landed}
+use Rattle.hop_model.specs.Hop.{offers_at, placed_of, pull_at, pulled_at, put_at}
+use Rattle.hop_model.specs.Shape.{fresh_hop}
+use Rattle.hop_model.specs.Sound.{Sound}
 use Rattle.hop_core.proofs.Cases.{Enabled, by_cases}
 use Rattle.hop_core.proofs.Drops.{lane-landed, lane-other}
 use Rattle.hop_core.proofs.GateSteps.{count_some}

@@ -6,14 +6,14 @@ use Rattle.steer_base.specs.Counters.{rounded_up}
 use Rattle.steer_base.specs.declared.idle.Idle.{Idle}
 use Rattle.steer_base.specs.declared.idle.Idle.TheVariants as idle
 use Rattle.backlog.specs.Puts.{put_answer}
-use Rattle.hop_core.specs.declared.event.HopEvent.{HopEvent}
-use Rattle.hop_core.specs.declared.event.HopEvent.TheVariants as event
-use Rattle.hop_core.specs.declared.event.HopAnswer.TheVariants as answer
-use Rattle.hop_core.specs.Hop.{HopState, accepted_at, pulled_at, delivered_at, retired_at, out_at}
-use Rattle.hop_core.specs.Hop.{arrivals_of, choices_of, taken_of, placed_of, inside_of, in_hand}
-use Rattle.hop_core.specs.Hop.{lane_of, pull_at, deliver_at, retire_at, with_closed, arrived, took}
-use Rattle.hop_core.specs.Hop.{choice_of, chose, put_one, with_bare, with_visit, resized}
-use Rattle.hop_core.specs.Events.{Outcome, happens, idles}
+use Rattle.hop_model.specs.declared.event.HopEvent.{HopEvent}
+use Rattle.hop_model.specs.declared.event.HopEvent.TheVariants as event
+use Rattle.hop_model.specs.declared.event.HopAnswer.TheVariants as answer
+use Rattle.hop_model.specs.Hop.{HopState, accepted_at, pulled_at, delivered_at, retired_at, out_at}
+use Rattle.hop_model.specs.Hop.{arrivals_of, choices_of, taken_of, placed_of, inside_of, in_hand}
+use Rattle.hop_model.specs.Hop.{lane_of, pull_at, deliver_at, retire_at, with_closed, arrived, took}
+use Rattle.hop_model.specs.Hop.{choice_of, chose, put_one, with_bare, with_visit, resized}
+use Rattle.hop_model.specs.Events.{Outcome, happens, idles}
 
 -- what holds on both sides of a test
 choose : (Q : Outcome → Type 0) (b : Bool) (x y : Outcome) → (b ≡ true → Q x) → (b ≡ false → Q y)

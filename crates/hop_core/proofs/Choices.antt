@@ -15,13 +15,13 @@ use Rattle.steer_base.specs.declared.choice.Choice.{Choice}
 use Rattle.steer_base.specs.declared.choice.Entry.{Entry}
 use Rattle.steer_base.specs.declared.cpu_mask.CpuMask.{CpuMask}
 use Rattle.steer_base.specs.declared.put.DropCause.{DropCause}
-use Rattle.hop_core.specs.declared.event.HopEvent.{HopEvent}
-use Rattle.hop_core.specs.declared.event.HopEvent.TheVariants as event
-use Rattle.hop_core.specs.Hop.{nobody, HopState, accepted_at, head_at, arrivals_of, choices_of}
-use Rattle.hop_core.specs.Hop.{chosen_at, taken_of, placed_of, since_of, in_hand, next_of, lane_of}
-use Rattle.hop_core.specs.Hop.{choice_of, chose}
-use Rattle.hop_core.specs.Events.{happens, MayAsk, AllMayAsk, run}
-use Rattle.hop_core.specs.Sound.{Sound}
+use Rattle.hop_model.specs.declared.event.HopEvent.{HopEvent}
+use Rattle.hop_model.specs.declared.event.HopEvent.TheVariants as event
+use Rattle.hop_model.specs.Hop.{nobody, HopState, accepted_at, head_at, arrivals_of, choices_of}
+use Rattle.hop_model.specs.Hop.{chosen_at, taken_of, placed_of, since_of, in_hand, next_of, lane_of}
+use Rattle.hop_model.specs.Hop.{choice_of, chose}
+use Rattle.hop_model.specs.Events.{happens, MayAsk, AllMayAsk, run}
+use Rattle.hop_model.specs.Sound.{Sound}
 use Rattle.hop_core.specs.Laws.{entries_before, ChoicesStay, ChoiceIsByTheRule}
 use Rattle.hop_core.proofs.Lists.{Changed-set, chosen-push_front, chosen-push_last, length-push}
 use Rattle.steer_base.proofs.EntriesLemmas.{recorded_count-same}

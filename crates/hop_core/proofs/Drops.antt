@@ -14,14 +14,14 @@ use Rattle.steer_base.specs.declared.put.LaneDrop.{LaneDrop}
 use Rattle.backlog.specs.Offers.{AreOffers, AllExplained}
 use Rattle.backlog.specs.Puts.{put_by}
 use Rattle.backlog.proofs.ExplainedLemmas.{AreOffers-put, AllExplained-put}
-use Rattle.hop_core.specs.declared.event.HopEvent.{HopEvent}
-use Rattle.hop_core.specs.declared.event.HopEvent.TheVariants as event
-use Rattle.hop_core.specs.Hop.{Fixed, Bare, HopState, accepted_at, offers_at, drops_at, fell_at}
-use Rattle.hop_core.specs.Hop.{pulled_at, arrivals_of, choices_of, placed_of, in_hand, lane_of}
-use Rattle.hop_core.specs.Hop.{landed}
-use Rattle.hop_core.specs.Events.{happens, AllMayAsk, run}
-use Rattle.hop_core.specs.Shape.{classes_for, fixed_of, fresh_hop, new_hop}
-use Rattle.hop_core.specs.Sound.{Puts, Sound}
+use Rattle.hop_model.specs.declared.event.HopEvent.{HopEvent}
+use Rattle.hop_model.specs.declared.event.HopEvent.TheVariants as event
+use Rattle.hop_model.specs.Hop.{Fixed, Bare, HopState, accepted_at, offers_at, drops_at, fell_at}
+use Rattle.hop_model.specs.Hop.{pulled_at, arrivals_of, choices_of, placed_of, in_hand, lane_of}
+use Rattle.hop_model.specs.Hop.{landed}
+use Rattle.hop_model.specs.Events.{happens, AllMayAsk, run}
+use Rattle.hop_model.specs.Shape.{classes_for, fixed_of, fresh_hop, new_hop}
+use Rattle.hop_model.specs.Sound.{Puts, Sound}
 use Rattle.hop_core.specs.Laws.{IsHashed, AllHashed, DropsExplained, ExplainsDrops}
 use Rattle.hop_core.specs.Laws.{EachExplainsDrops, NeverDrops, Ample, EachKeepsAmple, FreshIsAmple}
 use Rattle.hop_core.specs.Laws.{FreshIsExplained}

@@ -11,11 +11,12 @@ use Rattle.steer_base.specs.declared.command.Busy.TheVariants.{NotEmpty}
 use Rattle.steer_base.specs.declared.cpu_mask.CpuMask.{CpuMask}
 use Rattle.steer_base.proofs.SetsLemmas.{those_below-more, those_below-same, those_below-zero}
 use Rattle.steer_base.proofs.SetsLemmas.{those_below_fail}
-use Rattle.hop_core.specs.Emptied.{AreEmptiedOf, EmptiedIsExact, SetIsAsked, emptied_of, first_busy}
-use Rattle.hop_core.specs.Emptied.{is_waiting, waiting}
-use Rattle.hop_core.specs.Events.{IsEmptied}
-use Rattle.hop_core.specs.Hop.{HopState, accepted_at, head_at, retired_at, tail_at}
-use Rattle.hop_core.specs.Sound.{Sound}
+use Rattle.hop_model.specs.Emptied.{AreEmptiedOf, EmptiedIsExact, SetIsAsked, emptied_of}
+use Rattle.hop_model.specs.Emptied.{first_busy}
+use Rattle.hop_model.specs.Emptied.{is_waiting, waiting}
+use Rattle.hop_model.specs.Events.{IsEmptied}
+use Rattle.hop_model.specs.Hop.{HopState, accepted_at, head_at, retired_at, tail_at}
+use Rattle.hop_model.specs.Sound.{Sound}
 use Rattle.hop_core.proofs.Fits.{fits_room}
 
 -- numbers of small counts are equal where the counts are

@@ -5,7 +5,7 @@ use Rattle.std.specs.List.{filter}
 use Rattle.std.proofs.lemmas.List.Elements.{filter-append, filter_agree}
 use Rattle.steer_base.specs.Orders.{IsPrefix, was_dropped}
 use Rattle.steer_base.specs.declared.put.LaneDrop.{LaneDrop}
-use Rattle.hop_core.specs.Hop.{out_at, arrivals_of}
+use Rattle.hop_model.specs.Hop.{out_at, arrivals_of}
 use Rattle.hop_core.specs.Order.{is_kept}
 use Rattle.hop_core.specs.Laws.{EndToEnd}
 

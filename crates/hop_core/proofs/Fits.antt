@@ -6,11 +6,11 @@ use Rattle.std.proofs.Math.ListN.{get_or-append}
 use Rattle.std.proofs.Math.Seq.{get_or-append_right}
 use Rattle.std.proofs.lemmas.Bool.{cases_lt}
 use Rattle.std.proofs.lemmas.List.{length-append, length-map}
-use Rattle.hop_core.specs.Hop.{HopState, accepted_at, arrivals_of, arrived, choices_of, deliver_at}
-use Rattle.hop_core.specs.Hop.{delivered_at, fell_at, out_at, placed_of, pulled_at, taken_of}
-use Rattle.hop_core.specs.Hop.{with_bare}
-use Rattle.hop_core.specs.Reads.{FitsRoom}
-use Rattle.hop_core.specs.Sound.{Puts, Sound}
+use Rattle.hop_model.specs.Hop.{HopState, accepted_at, arrivals_of, arrived, choices_of, deliver_at}
+use Rattle.hop_model.specs.Hop.{delivered_at, fell_at, out_at, placed_of, pulled_at, taken_of}
+use Rattle.hop_model.specs.Hop.{with_bare}
+use Rattle.hop_model.specs.Reads.{FitsRoom}
+use Rattle.hop_model.specs.Sound.{Puts, Sound}
 use Rattle.hop_core.proofs.LaneSteps.{Sound-deliver}
 use Rattle.hop_core.proofs.Lists.{Changed-set, length-push}
 use Rattle.hop_core.proofs.ProducerSteps.{Sound-arrive}

@@ -6,12 +6,12 @@ use Rattle.std.specs.Prelude.{◌==◌, slice_index}
 use Rattle.std.specs.List.{list_any}
 use Rattle.std.proofs.lemmas.List.{get_or-drop, length-drop}
 use Rattle.std.proofs.lemmas.Bool.{cases_eq, eqb-true, or_cases, and_parts}
-use Rattle.hop_core.specs.declared.event.HopEvent.{HopEvent}
-use Rattle.hop_core.specs.declared.event.HopEvent.TheVariants as event
-use Rattle.hop_core.specs.Hop.{HopState, accepted_at, retired_at, arrivals_of, choices_of}
-use Rattle.hop_core.specs.Hop.{chosen_at, placed_of, recent, in_hand, next_out, lane_of, arrived}
-use Rattle.hop_core.specs.Events.{happens, MayAsk}
-use Rattle.hop_core.specs.Sound.{Sound}
+use Rattle.hop_model.specs.declared.event.HopEvent.{HopEvent}
+use Rattle.hop_model.specs.declared.event.HopEvent.TheVariants as event
+use Rattle.hop_model.specs.Hop.{HopState, accepted_at, retired_at, arrivals_of, choices_of}
+use Rattle.hop_model.specs.Hop.{chosen_at, placed_of, recent, in_hand, next_out, lane_of, arrived}
+use Rattle.hop_model.specs.Events.{happens, MayAsk}
+use Rattle.hop_model.specs.Sound.{Sound}
 use Rattle.hop_core.specs.Order.{IsInOrder, OnlyAt, Tight}
 use Rattle.hop_core.specs.Flows.{ArrivesAt, FlowOrdered, FlowAllowed, arrived_by}
 use Rattle.steer_base.specs.Drops.{bucket_of, lane_drop_cause}

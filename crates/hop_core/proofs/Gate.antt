@@ -3,10 +3,10 @@ use Rattle.std.proofs.Common.{ℕ, ◌≡◌, ◌≢◌, ◌+◌, Bool, true, fa
 use Rattle.std.specs.Prelude.{◌==◌}
 use Rattle.std.proofs.lemmas.Bool.{cases_Bool, ne_eqb}
 use Rattle.steer_base.specs.declared.idle.Idle.TheVariants as idle
-use Rattle.hop_core.specs.declared.event.HopAnswer.TheVariants as answer
-use Rattle.hop_core.specs.declared.event.HopEvent.TheVariants as event
-use Rattle.hop_core.specs.Hop.{HopState, inside_of, with_visit}
-use Rattle.hop_core.specs.Events.{Outcome, happens, idles}
+use Rattle.hop_model.specs.declared.event.HopAnswer.TheVariants as answer
+use Rattle.hop_model.specs.declared.event.HopEvent.TheVariants as event
+use Rattle.hop_model.specs.Hop.{HopState, inside_of, with_visit}
+use Rattle.hop_model.specs.Events.{Outcome, happens, idles}
 use Rattle.hop_core.specs.Laws.{ClosedIsExact, InsideIsExact}
 use Rattle.hop_core.proofs.GateSteps.{count_some}
 

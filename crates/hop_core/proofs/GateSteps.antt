@@ -6,11 +6,12 @@ use Rattle.std.specs.Prelude.{count_by}
 use Rattle.std.proofs.Math.ListN.{length-set}
 use Rattle.std.proofs.lemmas.Bool.{cases_eq, cases_lt}
 use Rattle.std.proofs.lemmas.List.Sums.{sum_by-set, sum_by-cons}
-use Rattle.hop_core.specs.Hop.{HopState, accepted_at, retired_at, arrivals_of, choices_of, taken_of}
-use Rattle.hop_core.specs.Hop.{placed_of, since_of, inside_of, with_closed, with_bare, with_visit}
-use Rattle.hop_core.specs.Hop.{resized}
-use Rattle.hop_core.specs.Events.{IsEmptied}
-use Rattle.hop_core.specs.Sound.{Gate, Sound}
+use Rattle.hop_model.specs.Hop.{HopState, accepted_at, retired_at, arrivals_of, choices_of}
+use Rattle.hop_model.specs.Hop.{taken_of}
+use Rattle.hop_model.specs.Hop.{placed_of, since_of, inside_of, with_closed, with_bare, with_visit}
+use Rattle.hop_model.specs.Hop.{resized}
+use Rattle.hop_model.specs.Events.{IsEmptied}
+use Rattle.hop_model.specs.Sound.{Gate, Sound}
 use Rattle.hop_core.proofs.Lists.{Changed-set}
 use Rattle.hop_core.proofs.Sound.{Hands-resize}
 use Rattle.hop_core.proofs.Stands.{Stands-resize, Past-resize}

@@ -4,10 +4,10 @@ use Rattle.std.proofs.Common.{refl, ◌∙◌}
 use Rattle.std.specs.Prelude.{slice_index, slice_index_or}
 use Rattle.std.proofs.Math.ListN.{length-set}
 use Rattle.std.proofs.lemmas.Bool.{cases_eq}
-use Rattle.hop_core.specs.Hop.{Bare, HopState, accepted_at, fell_at, out_at, next_out, pulled_at}
-use Rattle.hop_core.specs.Hop.{delivered_at, retired_at, choices_of, since_of, pull_at, deliver_at}
-use Rattle.hop_core.specs.Hop.{retire_at, with_bare}
-use Rattle.hop_core.specs.Sound.{Counts, Past, Places, Sound, Stands}
+use Rattle.hop_model.specs.Hop.{Bare, HopState, accepted_at, fell_at, out_at, next_out, pulled_at}
+use Rattle.hop_model.specs.Hop.{delivered_at, retired_at, choices_of, since_of, pull_at, deliver_at}
+use Rattle.hop_model.specs.Hop.{retire_at, with_bare}
+use Rattle.hop_model.specs.Sound.{Counts, Past, Places, Sound, Stands}
 use Rattle.hop_core.proofs.Lists.{Changed-set}
 use Rattle.hop_core.proofs.Sound.{Counts-pull, Counts-deliver, Counts-retire}
 use Rattle.hop_core.proofs.Puts.{Places-deliver}

@@ -5,11 +5,11 @@ use Rattle.steer_base.specs.Drops.{bucket_of, lane_drop_cause}
 use Rattle.steer_base.specs.declared.choice.Choice.{Choice}
 use Rattle.steer_base.specs.declared.cpu_mask.CpuMask.{CpuMask}
 use Rattle.steer_base.specs.declared.put.DropCause.{DropCause}
-use Rattle.hop_core.specs.declared.event.HopEvent.{HopEvent}
-use Rattle.hop_core.specs.declared.event.HopEvent.TheVariants as event
-use Rattle.hop_core.specs.Hop.{HopState, arrived, choice_of, chose, deliver_at, in_hand, lane_of}
-use Rattle.hop_core.specs.Hop.{pull_at, resized, retire_at, took, with_bare, with_closed}
-use Rattle.hop_core.specs.Hop.{with_visit}
+use Rattle.hop_model.specs.declared.event.HopEvent.{HopEvent}
+use Rattle.hop_model.specs.declared.event.HopEvent.TheVariants as event
+use Rattle.hop_model.specs.Hop.{HopState, arrived, choice_of, chose, deliver_at, in_hand, lane_of}
+use Rattle.hop_model.specs.Hop.{pull_at, resized, retire_at, took, with_bare, with_closed}
+use Rattle.hop_model.specs.Hop.{with_visit}
 use Rattle.hop_core.specs.Leaves.{EachLeaves, Field, Same, changes}
 use Rattle.hop_core.specs.Leaves as field
 use Rattle.hop_core.proofs.Cases.{Enabled, by_cases}

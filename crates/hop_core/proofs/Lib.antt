@@ -22,7 +22,6 @@ pub mod New
 pub mod NothingLost
 pub mod Order
 pub mod Others
-pub mod Pairs
 pub mod ProducerSteps
 pub mod PutSteps
 pub mod Puts

@@ -6,10 +6,10 @@ use Rattle.std.proofs.Math.ListN.{length-replicate}
 use Rattle.std.proofs.lemmas.List.Sums.{sum_by-cons}
 use Rattle.steer_base.specs.declared.choice.Chosen.{Chosen}
 use Rattle.steer_base.specs.declared.put.LaneDrop.{LaneDrop}
-use Rattle.hop_core.specs.Hop.{HopState, arrivals_of, choices_of, accepted_at, fell_at, out_at}
-use Rattle.hop_core.specs.Hop.{since_of}
+use Rattle.hop_model.specs.Hop.{HopState, arrivals_of, choices_of, accepted_at, fell_at, out_at}
+use Rattle.hop_model.specs.Hop.{since_of}
 use Rattle.hop_core.specs.Laws.{FreshIsOrdered, FreshIsSound, NewIsOrdered, NewIsSound}
-use Rattle.hop_core.specs.Shape.{classes_for, fixed_of, fresh_hop}
+use Rattle.hop_model.specs.Shape.{classes_for, fixed_of, fresh_hop}
 
 pub at_new : {X : Type 0} (n i : ℕ) (x : X) → get_or (replicate n x) i x ≡ x
 at_new zero i x = refl

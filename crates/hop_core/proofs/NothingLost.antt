@@ -10,16 +10,17 @@ use Rattle.steer_base.specs.Drops.{bucket_of, lane_drop_cause}
 use Rattle.steer_base.specs.declared.choice.Chosen.{Chosen}
 use Rattle.steer_base.specs.declared.put.DropCause.{DropCause}
 use Rattle.steer_base.specs.declared.put.LaneDrop.{LaneDrop}
-use Rattle.hop_core.specs.declared.event.HopEvent.{HopEvent}
-use Rattle.hop_core.specs.declared.event.HopEvent.TheVariants as event
-use Rattle.hop_core.specs.Events.{AllMayAsk, MayAsk, happens, run}
-use Rattle.hop_core.specs.Hop.{HopState, accepted_at, choices_of, chosen_at, choice_of, deliver_at}
-use Rattle.hop_core.specs.Hop.{delivered_at, drops_at, fell_at, in_hand, lane_of, next_of, next_out}
-use Rattle.hop_core.specs.Hop.{nobody, out_at, placed_of, pulled_at}
+use Rattle.hop_model.specs.declared.event.HopEvent.{HopEvent}
+use Rattle.hop_model.specs.declared.event.HopEvent.TheVariants as event
+use Rattle.hop_model.specs.Events.{AllMayAsk, MayAsk, happens, run}
+use Rattle.hop_model.specs.Hop.{HopState, accepted_at, choices_of, chosen_at, choice_of, deliver_at}
+use Rattle.hop_model.specs.Hop.{delivered_at, drops_at, fell_at, in_hand, lane_of, next_of}
+use Rattle.hop_model.specs.Hop.{next_out}
+use Rattle.hop_model.specs.Hop.{nobody, out_at, placed_of, pulled_at}
 use Rattle.hop_core.specs.NothingLost.{EachLosesNothing, EachPutIsOnce, IsOnceIn, IsInOutLane}
 use Rattle.hop_core.specs.NothingLost.{LosesNothing, FreshLosesNothing, NothingLost, WasLeft}
-use Rattle.hop_core.specs.Shape.{classes_for, fixed_of, fresh_hop, new_hop}
-use Rattle.hop_core.specs.Sound.{Sound}
+use Rattle.hop_model.specs.Shape.{classes_for, fixed_of, fresh_hop, new_hop}
+use Rattle.hop_model.specs.Sound.{Sound}
 use Rattle.hop_core.proofs.AllSteps.{Sound-happens}
 use Rattle.hop_core.proofs.Cases.{Enabled, by_cases}
 use Rattle.hop_core.proofs.Gathered.{Added}

@@ -15,14 +15,14 @@ use Rattle.steer_base.specs.Drops.{bucket_of, lane_drop_cause}
 use Rattle.steer_base.specs.Orders.{was_dropped}
 use Rattle.steer_base.specs.declared.put.DropCause.{DropCause}
 use Rattle.steer_base.specs.declared.put.LaneDrop.{LaneDrop}
-use Rattle.hop_core.specs.declared.event.HopEvent.{HopEvent}
-use Rattle.hop_core.specs.declared.event.HopEvent.TheVariants as event
-use Rattle.hop_core.specs.Hop.{Bare, HopState, accepted_at, fell_at, delivered_at, retired_at}
-use Rattle.hop_core.specs.Hop.{pulled_at, out_at, arrivals_of, choices_of, placed_of, in_hand}
-use Rattle.hop_core.specs.Hop.{next_out, lane_of, deliver_at, retire_at, put_one, arrived}
-use Rattle.hop_core.specs.Hop.{with_bare}
-use Rattle.hop_core.specs.Events.{happens, MayAsk, AllMayAsk, run}
-use Rattle.hop_core.specs.Sound.{Sound}
+use Rattle.hop_model.specs.declared.event.HopEvent.{HopEvent}
+use Rattle.hop_model.specs.declared.event.HopEvent.TheVariants as event
+use Rattle.hop_model.specs.Hop.{Bare, HopState, accepted_at, fell_at, delivered_at, retired_at}
+use Rattle.hop_model.specs.Hop.{pulled_at, out_at, arrivals_of, choices_of, placed_of, in_hand}
+use Rattle.hop_model.specs.Hop.{next_out, lane_of, deliver_at, retire_at, put_one, arrived}
+use Rattle.hop_model.specs.Hop.{with_bare}
+use Rattle.hop_model.specs.Events.{happens, MayAsk, AllMayAsk, run}
+use Rattle.hop_model.specs.Sound.{Sound}
 use Rattle.hop_core.specs.Order.{is_kept, IsInOrder, OnlyAt, Tight, AllTight, Ordered}
 use Rattle.hop_core.proofs.Lists.{Changed, Changed-set, filter-same}
 use Rattle.hop_core.proofs.Gathered.{Added, Gathered-retire, Gathered-other, Gathered-put}

@@ -3,9 +3,9 @@ use Rattle.std.proofs.Common.{ℕ, ◌≢◌, [], Option, Some, None, refl, ap, 
 use Rattle.std.proofs.lemmas.List.{get_or-set_other}
 use Rattle.steer_base.specs.Drops.{bucket_of, lane_drop_cause}
 use Rattle.steer_base.specs.declared.put.DropCause.{DropCause}
-use Rattle.hop_core.specs.declared.event.HopEvent.{HopEvent}
-use Rattle.hop_core.specs.declared.event.HopEvent.TheVariants as event
-use Rattle.hop_core.specs.Hop.{HopState, in_hand, lane_of}
+use Rattle.hop_model.specs.declared.event.HopEvent.{HopEvent}
+use Rattle.hop_model.specs.declared.event.HopEvent.TheVariants as event
+use Rattle.hop_model.specs.Hop.{HopState, in_hand, lane_of}
 use Rattle.hop_core.specs.Others.{EachLeavesLanes, EachLeavesProducers, SameLane, SameProducer}
 use Rattle.hop_core.specs.Others.{changed_lane, producer_of}
 use Rattle.hop_core.proofs.Cases.{Enabled, by_cases}

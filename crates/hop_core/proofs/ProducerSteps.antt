@@ -11,11 +11,12 @@ use Rattle.steer_base.specs.Entries.{position, of_class, is_class, current_lane,
 use Rattle.steer_base.specs.Sets.{has}
 use Rattle.steer_base.specs.declared.choice.Chosen.{Chosen}
 use Rattle.steer_base.specs.declared.cpu_mask.CpuMask.{CpuMask}
-use Rattle.hop_core.specs.Hop.{nobody, HopState, accepted_at, fell_at, next_of, retired_at, head_at}
-use Rattle.hop_core.specs.Hop.{arrivals_of, choices_of, chosen_at, taken_of, placed_of, since_of}
-use Rattle.hop_core.specs.Hop.{inside_of, arrived, took, chose, choice_of}
-use Rattle.hop_core.specs.Events.{IsEmptied}
-use Rattle.hop_core.specs.Sound.{Puts, Sound}
+use Rattle.hop_model.specs.Hop.{nobody, HopState, accepted_at, fell_at, next_of, retired_at}
+use Rattle.hop_model.specs.Hop.{head_at}
+use Rattle.hop_model.specs.Hop.{arrivals_of, choices_of, chosen_at, taken_of, placed_of, since_of}
+use Rattle.hop_model.specs.Hop.{inside_of, arrived, took, chose, choice_of}
+use Rattle.hop_model.specs.Events.{IsEmptied}
+use Rattle.hop_model.specs.Sound.{Puts, Sound}
 use Rattle.hop_core.proofs.Lists.{Changed, Changed-set, place_in-none, chosen-push_front}
 use Rattle.hop_core.proofs.Lists.{chosen-push_last, length-push}
 use Rattle.hop_core.proofs.Rooms.{room_all}

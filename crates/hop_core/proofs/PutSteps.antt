@@ -11,11 +11,11 @@ use Rattle.steer_base.specs.Entries.{position}
 use Rattle.steer_base.specs.declared.choice.Chosen.{Chosen}
 use Rattle.steer_base.specs.declared.put.DropCause.{DropCause}
 use Rattle.steer_base.specs.declared.put.LaneDrop.{LaneDrop}
-use Rattle.hop_core.specs.Hop.{nobody, HopState, accepted_at, drops_at, fell_at, out_at, pulled_at}
-use Rattle.hop_core.specs.Hop.{delivered_at, retired_at, arrivals_of, choices_of, chosen_at}
-use Rattle.hop_core.specs.Hop.{taken_of, placed_of, since_of, inside_of, in_hand, lane_of, put_one}
-use Rattle.hop_core.specs.Hop.{landed}
-use Rattle.hop_core.specs.Sound.{Hands, Sound}
+use Rattle.hop_model.specs.Hop.{nobody, HopState, accepted_at, drops_at, fell_at, out_at, pulled_at}
+use Rattle.hop_model.specs.Hop.{delivered_at, retired_at, arrivals_of, choices_of, chosen_at}
+use Rattle.hop_model.specs.Hop.{taken_of, placed_of, since_of, inside_of, in_hand, lane_of, put_one}
+use Rattle.hop_model.specs.Hop.{landed}
+use Rattle.hop_model.specs.Sound.{Hands, Sound}
 use Rattle.hop_core.proofs.Lists.{Changed, Changed-set, place_in-none, front_and_last}
 use Rattle.hop_core.proofs.Gathered.{Added}
 use Rattle.hop_core.proofs.Sound.{same_choice, position-added, Hands-put, Counts-accept}

@@ -2,8 +2,8 @@ use Rattle.std.proofs.Common.{ℕ, ◌+◌, ◌≤◌, ◌<◌, ◌≡◌, ◌�
 use Rattle.std.proofs.Common.{ap, ◌∙◌, sym, arith, inl, inr, get_or}
 use Rattle.std.proofs.lemmas.Bool.{cases_eq}
 use Rattle.steer_base.specs.declared.choice.Chosen.{Chosen}
-use Rattle.hop_core.specs.Hop.{nobody, chosen_at}
-use Rattle.hop_core.specs.Sound.{WasPut, Distinct, Puts, Places}
+use Rattle.hop_model.specs.Hop.{nobody, chosen_at}
+use Rattle.hop_model.specs.Sound.{WasPut, Distinct, Puts, Places}
 use Rattle.hop_core.proofs.Sound.{Distinct-arrive}
 use Rattle.hop_core.proofs.Lists.{Changed, chosen-push_front, chosen-push_last, length-push}
 use Rattle.hop_core.proofs.Gathered.{Added}

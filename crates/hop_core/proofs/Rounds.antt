@@ -3,10 +3,10 @@ use Rattle.std.proofs.Common.{ℕ, ◌+◌, ◌<◌, ◌≡◌, [], ◌∷◌, �
 use Rattle.std.proofs.Common.{arith}
 use Rattle.std.specs.Prelude.{slice_index}
 use Rattle.std.proofs.lemmas.Bool.{le-ltb, lt-ltb}
-use Rattle.hop_core.specs.declared.event.HopEvent.TheVariants as event
-use Rattle.hop_core.specs.Hop.{HopState, accepted_at, delivered_at, pulled_at, retired_at, out_at}
-use Rattle.hop_core.specs.Hop.{next_out, pull_at, deliver_at, retire_at, with_bare}
-use Rattle.hop_core.specs.Events.{happens, run}
+use Rattle.hop_model.specs.declared.event.HopEvent.TheVariants as event
+use Rattle.hop_model.specs.Hop.{HopState, accepted_at, delivered_at, pulled_at, retired_at, out_at}
+use Rattle.hop_model.specs.Hop.{next_out, pull_at, deliver_at, retire_at, with_bare}
+use Rattle.hop_model.specs.Events.{happens, run}
 use Rattle.hop_core.specs.Rounds.{AsksAreJoined, RoundMayBeAsked, RoundRetiresOne, RunsAreJoined}
 use Rattle.hop_core.specs.Rounds.{WentThrough, round_of}
 use Rattle.hop_core.proofs.Lists.{Changed-set}

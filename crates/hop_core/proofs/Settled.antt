@@ -14,18 +14,19 @@ use Rattle.steer_base.specs.Sets.{has}
 use Rattle.steer_base.specs.declared.choice.Chosen.{Chosen}
 use Rattle.steer_base.specs.declared.choice.Entry.{Entry}
 use Rattle.steer_base.specs.declared.put.DropCause.{DropCause}
-use Rattle.hop_core.specs.declared.event.HopEvent.{HopEvent}
-use Rattle.hop_core.specs.declared.event.HopEvent.TheVariants as event
-use Rattle.hop_core.specs.Events.{MayAsk}
+use Rattle.hop_model.specs.declared.event.HopEvent.{HopEvent}
+use Rattle.hop_model.specs.declared.event.HopEvent.TheVariants as event
+use Rattle.hop_model.specs.Events.{MayAsk}
 use Rattle.hop_core.specs.Flows.{FlowAt}
-use Rattle.hop_core.specs.Hop.{HopState, accepted_at, arrivals_of, choice_of, choices_of, chosen_at}
-use Rattle.hop_core.specs.Hop.{head_at, in_hand, lane_of, next_of, nobody, placed_of, recent}
-use Rattle.hop_core.specs.Hop.{resized, retire_at, retired_at, since_of, taken_of}
+use Rattle.hop_model.specs.Hop.{HopState, accepted_at, arrivals_of, choice_of, choices_of}
+use Rattle.hop_model.specs.Hop.{chosen_at}
+use Rattle.hop_model.specs.Hop.{head_at, in_hand, lane_of, next_of, nobody, placed_of, recent}
+use Rattle.hop_model.specs.Hop.{resized, retire_at, retired_at, since_of, taken_of}
 use Rattle.hop_core.specs.Order.{OneClass}
 use Rattle.hop_core.specs.Settled.{AreAlike, EachKeepsSettled, IsBySettings, FreshIsSettled}
 use Rattle.hop_core.specs.Settled.{ResetSettles, ResizeSettles, SettledAllowsPuts, SettledIn}
-use Rattle.hop_core.specs.Shape.{fresh_hop}
-use Rattle.hop_core.specs.Sound.{Sound}
+use Rattle.hop_model.specs.Shape.{fresh_hop}
+use Rattle.hop_model.specs.Sound.{Sound}
 use Rattle.hop_core.proofs.Alone.{place_in-at}
 use Rattle.hop_core.proofs.Cases.{Enabled, by_cases}
 use Rattle.hop_core.proofs.GateSteps.{all_placed}

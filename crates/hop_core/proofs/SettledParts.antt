@@ -4,9 +4,9 @@ use Rattle.std.proofs.Common.{None, length, ap, ◌∙◌, sym, arith, inl, inr}
 use Rattle.std.proofs.lemmas.Bool.{cases_eq, cases_lt}
 use Rattle.steer_base.specs.Entries.{position}
 use Rattle.steer_base.specs.declared.choice.Chosen.{Chosen}
-use Rattle.hop_core.specs.Hop.{chosen_at, nobody}
+use Rattle.hop_model.specs.Hop.{chosen_at, nobody}
 use Rattle.hop_core.specs.Settled.{Settled}
-use Rattle.hop_core.specs.Sound.{Distinct, Hands}
+use Rattle.hop_model.specs.Sound.{Distinct, Hands}
 use Rattle.steer_base.proofs.EntriesLemmas.{place_in-le, place_in-other}
 use Rattle.hop_core.proofs.Gathered.{Added}
 use Rattle.hop_core.proofs.Lists.{Changed, chosen-push_front, chosen-push_last, length-push}

@@ -4,8 +4,8 @@ use Rattle.std.proofs.lemmas.Bool.{cases_eq}
 use Rattle.steer_base.specs.Entries.{position}
 use Rattle.steer_base.proofs.EntriesLemmas.{place_in-other}
 use Rattle.steer_base.specs.declared.choice.Chosen.{Chosen}
-use Rattle.hop_core.specs.Hop.{nobody, chosen_at}
-use Rattle.hop_core.specs.Sound.{Hands, Distinct, Counts, WasPut}
+use Rattle.hop_model.specs.Hop.{nobody, chosen_at}
+use Rattle.hop_model.specs.Sound.{Hands, Distinct, Counts, WasPut}
 use Rattle.hop_core.proofs.Lists.{Changed, chosen-push_front, chosen-push_last, length-push}
 use Rattle.hop_core.proofs.Gathered.{Added}
 

@@ -15,7 +15,7 @@ use Rattle.steer_base.proofs.EntriesLemmas.{recorded_count-push, recorded_count-
 use Rattle.steer_base.proofs.EntriesLemmas.{recorded_count-same, recorded_count-le}
 use Rattle.steer_base.specs.declared.choice.Choice.{Choice}
 use Rattle.steer_base.specs.declared.choice.Chosen.{Chosen}
-use Rattle.hop_core.specs.Standing.{StandsAt, Standing}
+use Rattle.hop_model.specs.Standing.{StandsAt, Standing}
 
 -- a retire
 pub Standing-retire : (accepted : ℕ → List ℕ) (retired later : ℕ → ℕ) (cs : List Chosen)

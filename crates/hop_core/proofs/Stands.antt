@@ -11,9 +11,9 @@ use Rattle.steer_base.specs.Counters.{number}
 use Rattle.steer_base.specs.Entries.{position, of_class, is_class, entry}
 use Rattle.steer_base.proofs.EntriesLemmas.{of_class-no, of_class-yes, place_in-le}
 use Rattle.steer_base.specs.declared.choice.Chosen.{Chosen}
-use Rattle.hop_core.specs.Hop.{nobody, chosen_at}
-use Rattle.hop_core.specs.Standing.{Standing}
-use Rattle.hop_core.specs.Sound.{Stands, Past}
+use Rattle.hop_model.specs.Hop.{nobody, chosen_at}
+use Rattle.hop_model.specs.Standing.{Standing}
+use Rattle.hop_model.specs.Sound.{Stands, Past}
 use Rattle.hop_core.proofs.Lists.{Changed, chosen-push_front}
 use Rattle.hop_core.proofs.Gathered.{Added}
 use Rattle.hop_core.proofs.Standing.{Standing-same, Standing-accept, Standing-weigh}

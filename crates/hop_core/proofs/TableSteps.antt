@@ -22,12 +22,12 @@ use Rattle.steer_base.specs.declared.choice.Entry.{Entry}
 use Rattle.steer_base.specs.declared.cpu_mask.CpuMask.{CpuMask}
 use Rattle.steer_base.specs.declared.put.DropCause.{DropCause}
 use Rattle.steer_base.specs.declared.put.Put.TheVariants.{At, Dropped}
-use Rattle.hop_core.specs.Events.{IsClassBelow}
+use Rattle.hop_model.specs.Events.{IsClassBelow}
 use Rattle.hop_core.specs.FlowTables.{FlowTables, IsSet, LanesBelow, noted, table_at, with_rows}
-use Rattle.hop_core.specs.Hop.{HopState, accepted_at, choice_of, choices_of, chose, head_at}
-use Rattle.hop_core.specs.Hop.{in_hand, lane_of, next_of, nobody, placed_of, recent, resized}
-use Rattle.hop_core.specs.Hop.{retired_at, since_of, taken_of}
-use Rattle.hop_core.specs.Sound.{Sound}
+use Rattle.hop_model.specs.Hop.{HopState, accepted_at, choice_of, choices_of, chose, head_at}
+use Rattle.hop_model.specs.Hop.{in_hand, lane_of, next_of, nobody, placed_of, recent, resized}
+use Rattle.hop_model.specs.Hop.{retired_at, since_of, taken_of}
+use Rattle.hop_model.specs.Sound.{Sound}
 use Rattle.hop_core.specs.Whole.{Tabled}
 use Rattle.hop_core.proofs.Choices.{put_positions}
 use Rattle.steer_base.proofs.EntriesLemmas.{current_lane-push, place_in-new, recorded_count-accept}

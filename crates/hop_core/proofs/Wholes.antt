@@ -14,21 +14,21 @@ use Rattle.steer_base.specs.declared.choice.Chosen.{Chosen}
 use Rattle.steer_base.specs.declared.cpu_mask.CpuMask.{CpuMask}
 use Rattle.steer_base.specs.declared.put.DropCause.{DropCause}
 use Rattle.steer_base.specs.declared.put.Put.{Put}
-use Rattle.hop_core.specs.Events.{IsClassBelow, IsEmptied, happens, put}
+use Rattle.hop_model.specs.Events.{IsClassBelow, IsEmptied, happens, put}
 use Rattle.hop_core.specs.FlowTables.{FlowTables, new_tables, noted, table_at, with_rows}
-use Rattle.hop_core.specs.Hop.{HopState, arrivals_of, choice_of, choices_of, delivered_at, in_hand}
-use Rattle.hop_core.specs.Hop.{inside_of, next_of, next_out, placed_of, pulled_at, retired_at}
-use Rattle.hop_core.specs.Hop.{taken_of}
+use Rattle.hop_model.specs.Hop.{HopState, arrivals_of, choice_of, choices_of, delivered_at, in_hand}
+use Rattle.hop_model.specs.Hop.{inside_of, next_of, next_out, placed_of, pulled_at, retired_at}
+use Rattle.hop_model.specs.Hop.{taken_of}
 use Rattle.steer_base.specs.Journals.{Journals, list_at, new_journals, pushed}
 use Rattle.hop_core.specs.LaneTable.{LaneTable, lane_at, new_lanes, with_lane}
-use Rattle.hop_core.specs.Reads.{to_put, to_weigh}
-use Rattle.hop_core.specs.Shape.{IsShape, classes_for, new_hop}
+use Rattle.hop_model.specs.Reads.{to_put, to_weigh}
+use Rattle.hop_model.specs.Shape.{IsShape, classes_for, new_hop}
 use Rattle.hop_core.specs.Sizes.{SameSizes}
-use Rattle.hop_core.specs.Sound.{Sound}
+use Rattle.hop_model.specs.Sound.{Sound}
 use Rattle.hop_core.specs.View.{HopParts, state_of}
 use Rattle.hop_core.specs.Whole.{IsWhole, Tabled}
-use Rattle.hop_core.specs.declared.event.HopEvent.{HopEvent}
-use Rattle.hop_core.specs.declared.shape.HopShape.{HopShape}
+use Rattle.hop_model.specs.declared.event.HopEvent.{HopEvent}
+use Rattle.hop_model.specs.declared.shape.HopShape.{HopShape}
 use Rattle.hop_core.proofs.Drops.{room-put}
 use Rattle.hop_core.proofs.Fits.{fits_room, room-arrive, room-deliver, room-weigh}
 use Rattle.hop_core.proofs.LaneSteps.{Sound-deliver, Sound-pull, Sound-retire}

@@ -9,13 +9,13 @@ use Rattle.steer_base.specs.Drops.{bucket_of, lane_drop_cause}
 use Rattle.steer_base.specs.declared.choice.Chosen.{Chosen}
 use Rattle.steer_base.specs.declared.idle.Idle.{Idle}
 use Rattle.steer_base.specs.declared.put.DropCause.{DropCause}
-use Rattle.hop_core.specs.declared.event.HopEvent.{HopEvent}
-use Rattle.hop_core.specs.declared.event.HopEvent.TheVariants as event
-use Rattle.hop_core.specs.declared.event.HopAnswer.TheVariants as answer
-use Rattle.hop_core.specs.Hop.{HopState, accepted_at, arrivals_of, choices_of, in_hand, next_of}
-use Rattle.hop_core.specs.Hop.{lane_of, choice_of}
-use Rattle.hop_core.specs.Events.{Outcome, MayAsk}
-use Rattle.hop_core.specs.Sound.{Distinct, Sound}
+use Rattle.hop_model.specs.declared.event.HopEvent.{HopEvent}
+use Rattle.hop_model.specs.declared.event.HopEvent.TheVariants as event
+use Rattle.hop_model.specs.declared.event.HopAnswer.TheVariants as answer
+use Rattle.hop_model.specs.Hop.{HopState, accepted_at, arrivals_of, choices_of, in_hand, next_of}
+use Rattle.hop_model.specs.Hop.{lane_of, choice_of}
+use Rattle.hop_model.specs.Events.{Outcome, MayAsk}
+use Rattle.hop_model.specs.Sound.{Distinct, Sound}
 use Rattle.hop_core.specs.Work.{total, sum_of, work, event_is_work, WorkGoesOn, WorkStays}
 use Rattle.hop_core.specs.Work.{WorkIsBounded}
 use Rattle.hop_core.proofs.Lists.{length-push}

@@ -7,7 +7,7 @@ use Rattle.steer_base.specs.declared.choice.Entry.{Entry}
 use Rattle.steer_base.specs.declared.put.Put.{Put}
 use Rattle.steer_base.specs.declared.put.Put.TheVariants.{At, Dropped}
 use Rattle.dev_flow_table.specs.Tables.{Table, entries, recorded, unset}
-use Rattle.hop_core.specs.Shape.{classes_for}
+use Rattle.hop_model.specs.Shape.{classes_for}
 
 -- The flow tables of a hop's producers, with one first counter number, either all of a fixed size
 -- or all rounded up.

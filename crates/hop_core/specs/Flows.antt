@@ -1,11 +1,11 @@
 -- Delivery in order of a flow of one producer, as a machine above keeps it from event to event.
 use Rattle.std.specs.Prelude.{ℕ, ◌≤◌, ◌<◌, ◌≡◌, ◌⊎◌, Bool, true, ◌&&◌, ◌==◌, length, slice_index}
 use Rattle.std.specs.List.{list_any}
-use Rattle.hop_core.specs.declared.event.HopEvent.{HopEvent}
-use Rattle.hop_core.specs.declared.event.HopEvent.TheVariants as event
-use Rattle.hop_core.specs.Hop.{HopState, accepted_at, pulled_at, delivered_at, retired_at}
-use Rattle.hop_core.specs.Hop.{arrivals_of, choices_of, chosen_at, placed_of, recent, in_hand}
-use Rattle.hop_core.specs.Hop.{next_out}
+use Rattle.hop_model.specs.declared.event.HopEvent.{HopEvent}
+use Rattle.hop_model.specs.declared.event.HopEvent.TheVariants as event
+use Rattle.hop_model.specs.Hop.{HopState, accepted_at, pulled_at, delivered_at, retired_at}
+use Rattle.hop_model.specs.Hop.{arrivals_of, choices_of, chosen_at, placed_of, recent, in_hand}
+use Rattle.hop_model.specs.Hop.{next_out}
 use Rattle.hop_core.specs.Order.{OneClass, Ordered}
 
 -- The packets of a set arrive at this producer only.

@@ -9,20 +9,20 @@ use Rattle.steer_base.specs.declared.choice.Choice.{Choice}
 use Rattle.steer_base.specs.declared.choice.Entry.{Entry}
 use Rattle.steer_base.specs.declared.cpu_mask.CpuMask.{CpuMask}
 use Rattle.backlog.specs.Offers.{AreOffers, AllExplained}
-use Rattle.hop_core.specs.declared.shape.TheConstants.{MAX_HOP_ROOM}
-use Rattle.hop_core.specs.declared.event.HopEvent.{HopEvent}
-use Rattle.hop_core.specs.declared.event.HopEvent.TheVariants as event
-use Rattle.hop_core.specs.declared.event.HopAnswer.TheVariants as answer
-use Rattle.hop_core.specs.declared.shape.HopShape.{HopShape}
-use Rattle.hop_core.specs.Hop.{Bare, Fixed, HopState, accepted_at, fell_at, drops_at, delivered_at}
-use Rattle.hop_core.specs.Hop.{out_at, head_at, arrivals_of, choices_of, chosen_at, taken_of}
-use Rattle.hop_core.specs.Hop.{placed_of, since_of, inside_of, in_hand, lane_of}
-use Rattle.hop_core.specs.Events.{happens, MayAsk, AllMayAsk, run}
-use Rattle.hop_core.specs.Shape.{IsShape, fresh_hop, new_hop}
-use Rattle.hop_core.specs.Sound.{Sound, Places, Puts}
+use Rattle.hop_model.specs.declared.shape.TheConstants.{MAX_HOP_ROOM}
+use Rattle.hop_model.specs.declared.event.HopEvent.{HopEvent}
+use Rattle.hop_model.specs.declared.event.HopEvent.TheVariants as event
+use Rattle.hop_model.specs.declared.event.HopAnswer.TheVariants as answer
+use Rattle.hop_model.specs.declared.shape.HopShape.{HopShape}
+use Rattle.hop_model.specs.Hop.{Bare, Fixed, HopState, accepted_at, fell_at, drops_at, delivered_at}
+use Rattle.hop_model.specs.Hop.{out_at, head_at, arrivals_of, choices_of, chosen_at, taken_of}
+use Rattle.hop_model.specs.Hop.{placed_of, since_of, inside_of, in_hand, lane_of}
+use Rattle.hop_model.specs.Events.{happens, MayAsk, AllMayAsk, run}
+use Rattle.hop_model.specs.Shape.{IsShape, fresh_hop, new_hop}
+use Rattle.hop_model.specs.Sound.{Sound, Places, Puts}
 use Rattle.hop_core.specs.Order.{is_kept, IsInOrder, Tight, AllTight, Ordered}
 use Rattle.hop_core.specs.Flows.{FlowOrdered, FlowAllowed, arrived_by}
-use Rattle.hop_core.specs.Pairs.{Pairwise}
+use Rattle.hop_model.specs.Pairs.{Pairwise}
 
 -- ---- what holds after any events
 

@@ -1,9 +1,9 @@
 -- What each event leaves alone, field by field.
 use Rattle.std.specs.Prelude.{◌≡◌, Bool, true, false}
-use Rattle.hop_core.specs.declared.event.HopEvent.{HopEvent}
-use Rattle.hop_core.specs.declared.event.HopEvent.TheVariants as event
-use Rattle.hop_core.specs.Events.{happens}
-use Rattle.hop_core.specs.Hop.{HopState}
+use Rattle.hop_model.specs.declared.event.HopEvent.{HopEvent}
+use Rattle.hop_model.specs.declared.event.HopEvent.TheVariants as event
+use Rattle.hop_model.specs.Events.{happens}
+use Rattle.hop_model.specs.Hop.{HopState}
 
 -- the fields of a state
 pub data Field : Type 0 where

@@ -2,7 +2,7 @@
 use Rattle.std.specs.Prelude.{ℕ, List, length, map}
 use Rattle.std.specs.List.{range_with_len}
 use Rattle.steer_base.specs.Lanes.{LaneLists}
-use Rattle.hop_core.specs.Hop.{Bare, accepted_at, delivered_at, drops_at, pulled_at, retired_at}
+use Rattle.hop_model.specs.Hop.{Bare, accepted_at, delivered_at, drops_at, pulled_at, retired_at}
 use Rattle.hop_core.specs.declared.left.LeftLane.{LeftLane}
 
 -- what a lane leaves of which so many packets were delivered and retired

@@ -1,10 +1,6 @@
-pub mod BareEvents
-pub mod Emptied
-pub mod Events
 pub mod FlowTables
 pub mod Flows
 pub mod Gathered
-pub mod Hop
 pub mod LaneTable
 pub mod Laws
 pub mod Leaves
@@ -12,15 +8,10 @@ pub mod Left
 pub mod NothingLost
 pub mod Order
 pub mod Others
-pub mod Pairs
-pub mod Reads
 pub mod Rounds
 pub mod Settled
-pub mod Shape
 pub mod SharedTable
 pub mod Sizes
-pub mod Sound
-pub mod Standing
 pub mod View
 pub mod Whole
 pub mod Work

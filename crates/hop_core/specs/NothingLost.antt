@@ -3,13 +3,13 @@
 use Rattle.std.specs.Prelude.{ℕ, ◌<◌, ◌≡◌, ◌≢◌, ◌⊎◌, List, length, slice_index}
 use Rattle.std.specs.List.{Contains}
 use Rattle.steer_base.specs.declared.choice.Chosen.{Chosen}
-use Rattle.hop_core.specs.declared.event.HopEvent.{HopEvent}
-use Rattle.hop_core.specs.declared.shape.HopShape.{HopShape}
-use Rattle.hop_core.specs.Events.{AllMayAsk, MayAsk, happens, run}
-use Rattle.hop_core.specs.Hop.{Fixed, HopState, accepted_at, chosen_at, choices_of, delivered_at}
-use Rattle.hop_core.specs.Hop.{fell_at, out_at, placed_of}
-use Rattle.hop_core.specs.Shape.{IsShape, fresh_hop, new_hop}
-use Rattle.hop_core.specs.Sound.{Sound}
+use Rattle.hop_model.specs.declared.event.HopEvent.{HopEvent}
+use Rattle.hop_model.specs.declared.shape.HopShape.{HopShape}
+use Rattle.hop_model.specs.Events.{AllMayAsk, MayAsk, happens, run}
+use Rattle.hop_model.specs.Hop.{Fixed, HopState, accepted_at, chosen_at, choices_of, delivered_at}
+use Rattle.hop_model.specs.Hop.{fell_at, out_at, placed_of}
+use Rattle.hop_model.specs.Shape.{IsShape, fresh_hop, new_hop}
+use Rattle.hop_model.specs.Sound.{Sound}
 
 -- The packet of a choice was accepted or dropped by the lane of that choice.
 abbrev pub WasLeft : (ℕ → List ℕ) → (ℕ → List ℕ) → Chosen → Type 0

@@ -4,12 +4,12 @@ use Rattle.std.specs.Prelude.{length, take, drop, filter, slice_index}
 use Rattle.std.specs.List.{All}
 use Rattle.steer_base.specs.Orders.{InOrder, was_dropped}
 use Rattle.steer_base.specs.declared.choice.Chosen.{Chosen}
-use Rattle.hop_core.specs.declared.event.HopEvent.{HopEvent}
-use Rattle.hop_core.specs.declared.event.HopEvent.TheVariants as event
-use Rattle.hop_core.specs.Hop.{Bare, HopState, accepted_at, delivered_at, retired_at, pulled_at}
-use Rattle.hop_core.specs.Hop.{out_at, arrivals_of, choices_of, placed_of, recent, in_hand}
-use Rattle.hop_core.specs.Hop.{next_out}
-use Rattle.hop_core.specs.Events.{happens}
+use Rattle.hop_model.specs.declared.event.HopEvent.{HopEvent}
+use Rattle.hop_model.specs.declared.event.HopEvent.TheVariants as event
+use Rattle.hop_model.specs.Hop.{Bare, HopState, accepted_at, delivered_at, retired_at, pulled_at}
+use Rattle.hop_model.specs.Hop.{out_at, arrivals_of, choices_of, placed_of, recent, in_hand}
+use Rattle.hop_model.specs.Hop.{next_out}
+use Rattle.hop_model.specs.Events.{happens}
 use Rattle.hop_core.specs.Gathered.{Gathered}
 
 -- whether a packet is of a set and was not dropped

@@ -1,12 +1,12 @@
 -- An event leaves what the other producers and the other lanes have.
 use Rattle.std.specs.Prelude.{ℕ, ◌≡◌, ◌≢◌, Option, Some, None, slice_index}
-use Rattle.hop_core.specs.declared.event.HopEvent.{HopEvent}
-use Rattle.hop_core.specs.declared.event.HopEvent.TheVariants as event
-use Rattle.hop_core.specs.Events.{happens}
-use Rattle.hop_core.specs.Hop.{HopState, accepted_at, arrivals_of, choices_of, delivered_at}
-use Rattle.hop_core.specs.Hop.{drops_at}
-use Rattle.hop_core.specs.Hop.{in_hand, offers_at, placed_of, pulled_at, retired_at, since_of}
-use Rattle.hop_core.specs.Hop.{taken_of}
+use Rattle.hop_model.specs.declared.event.HopEvent.{HopEvent}
+use Rattle.hop_model.specs.declared.event.HopEvent.TheVariants as event
+use Rattle.hop_model.specs.Events.{happens}
+use Rattle.hop_model.specs.Hop.{HopState, accepted_at, arrivals_of, choices_of, delivered_at}
+use Rattle.hop_model.specs.Hop.{drops_at}
+use Rattle.hop_model.specs.Hop.{in_hand, offers_at, placed_of, pulled_at, retired_at, since_of}
+use Rattle.hop_model.specs.Hop.{taken_of}
 
 -- the producer whose lists an event may change, if any
 abbrev pub producer_of : HopEvent → Option ℕ

@@ -1,11 +1,11 @@
 -- Lists of events that are joined, and the round of a lane that gets one packet through.
 use Rattle.std.specs.Prelude.{ℕ, ◌+◌, ◌<◌, ◌≡◌, ◌≢◌, ◌↔◌, List, [], ◌∷◌, ◌++◌, length, slice_index}
-use Rattle.hop_core.specs.declared.event.HopEvent.{HopEvent}
-use Rattle.hop_core.specs.declared.event.HopEvent.TheVariants as event
-use Rattle.hop_core.specs.Hop.{HopState, accepted_at, pulled_at, retired_at, out_at}
-use Rattle.hop_core.specs.Hop.{pull_at, deliver_at, retire_at, with_bare}
-use Rattle.hop_core.specs.Events.{AllMayAsk, run}
-use Rattle.hop_core.specs.Sound.{Sound}
+use Rattle.hop_model.specs.declared.event.HopEvent.{HopEvent}
+use Rattle.hop_model.specs.declared.event.HopEvent.TheVariants as event
+use Rattle.hop_model.specs.Hop.{HopState, accepted_at, pulled_at, retired_at, out_at}
+use Rattle.hop_model.specs.Hop.{pull_at, deliver_at, retire_at, with_bare}
+use Rattle.hop_model.specs.Events.{AllMayAsk, run}
+use Rattle.hop_model.specs.Sound.{Sound}
 
 -- The state after two lists of events is that of the second after the first.
 abbrev pub RunsAreJoined : Type 0

@@ -4,14 +4,14 @@ use Rattle.std.specs.Prelude.{ℕ, ◌≤◌, ◌<◌, ◌≡◌, ◌≢◌, ◌
 use Rattle.std.specs.Prelude.{length}
 use Rattle.steer_base.specs.Entries.{position}
 use Rattle.steer_base.specs.declared.choice.Chosen.{Chosen}
-use Rattle.hop_core.specs.declared.event.HopEvent.{HopEvent}
-use Rattle.hop_core.specs.declared.event.HopEvent.TheVariants as event
-use Rattle.hop_core.specs.Events.{MayAsk, happens}
+use Rattle.hop_model.specs.declared.event.HopEvent.{HopEvent}
+use Rattle.hop_model.specs.declared.event.HopEvent.TheVariants as event
+use Rattle.hop_model.specs.Events.{MayAsk, happens}
 use Rattle.hop_core.specs.Flows.{FlowAllowed}
-use Rattle.hop_core.specs.Hop.{Fixed, HopState, accepted_at, choices_of, chosen_at, next_of}
-use Rattle.hop_core.specs.Hop.{placed_of, retired_at, since_of, taken_of}
-use Rattle.hop_core.specs.Shape.{fresh_hop}
-use Rattle.hop_core.specs.Sound.{Sound}
+use Rattle.hop_model.specs.Hop.{Fixed, HopState, accepted_at, choices_of, chosen_at, next_of}
+use Rattle.hop_model.specs.Hop.{placed_of, retired_at, since_of, taken_of}
+use Rattle.hop_model.specs.Shape.{fresh_hop}
+use Rattle.hop_model.specs.Sound.{Sound}
 
 -- If the packet of a choice is accepted and not retired, it is at the lane to which its producer
 -- sends such packets now.

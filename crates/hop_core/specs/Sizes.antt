@@ -1,7 +1,7 @@
 -- What no event changes: what a hop keeps for good, and how many actors, lanes and out lanes it
 -- has.
 use Rattle.std.specs.Prelude.{◌≡◌, length}
-use Rattle.hop_core.specs.Hop.{HopState}
+use Rattle.hop_model.specs.Hop.{HopState}
 
 -- Two states of a hop have the same fixed part and the same numbers of producers, actors, lanes and
 -- out lanes.

@@ -2,7 +2,7 @@
 use Rattle.std.specs.Prelude.{ℕ, Bool, List}
 use Rattle.steer_base.specs.declared.choice.Chosen.{Chosen}
 use Rattle.hop_core.specs.FlowTables.{FlowTables}
-use Rattle.hop_core.specs.Hop.{HopState}
+use Rattle.hop_model.specs.Hop.{HopState}
 use Rattle.steer_base.specs.Journals.{Journals}
 use Rattle.hop_core.specs.LaneTable.{LaneTable}
 use Rattle.hop_core.specs.declared.hop.Gate.{Gate}

@@ -2,10 +2,10 @@
 use Rattle.std.specs.Prelude.{ℕ, ◌<◌, ◌≤◌, ◌≡◌, length, slice_index}
 use Rattle.steer_base.specs.Entries.{entry}
 use Rattle.dev_flow_table.specs.Tables.{entries}
-use Rattle.hop_core.specs.Events.{IsClassBelow}
+use Rattle.hop_model.specs.Events.{IsClassBelow}
 use Rattle.hop_core.specs.FlowTables.{FlowTables, table_at}
-use Rattle.hop_core.specs.Hop.{HopState, accepted_at, chosen_at, choices_of, recent, since_of}
-use Rattle.hop_core.specs.Sound.{Sound}
+use Rattle.hop_model.specs.Hop.{HopState, accepted_at, chosen_at, choices_of, recent, since_of}
+use Rattle.hop_model.specs.Sound.{Sound}
 use Rattle.hop_core.specs.View.{HopParts, state_of}
 
 -- The flow tables hold the entries that the lists give, and the classes since the last resize are

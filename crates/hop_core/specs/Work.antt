@@ -2,12 +2,12 @@
 -- weighed, put, pulled, delivered and retired.
 use Rattle.std.specs.Prelude.{ℕ, ◌+◌, ◌*◌, ◌≤◌, ◌≡◌, ◌⊎◌, Bool, true, false, List, [], ◌∷◌, length}
 use Rattle.steer_base.specs.declared.idle.Idle.{Idle}
-use Rattle.hop_core.specs.declared.event.HopEvent.{HopEvent}
-use Rattle.hop_core.specs.declared.event.HopEvent.TheVariants as event
-use Rattle.hop_core.specs.declared.event.HopAnswer.TheVariants as answer
-use Rattle.hop_core.specs.Hop.{HopState}
-use Rattle.hop_core.specs.Events.{happens, MayAsk}
-use Rattle.hop_core.specs.Sound.{Sound}
+use Rattle.hop_model.specs.declared.event.HopEvent.{HopEvent}
+use Rattle.hop_model.specs.declared.event.HopEvent.TheVariants as event
+use Rattle.hop_model.specs.declared.event.HopAnswer.TheVariants as answer
+use Rattle.hop_model.specs.Hop.{HopState}
+use Rattle.hop_model.specs.Events.{happens, MayAsk}
+use Rattle.hop_model.specs.Sound.{Sound}
 
 -- how many members a list of lists has together
 unfoldable pub total : {X : Type 0} → List (List X) → ℕ

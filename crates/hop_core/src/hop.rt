@@ -1,13 +1,13 @@
 //! A hop: producers, lanes with their hands and heads, out lanes, and a gate.
 ghost use Rattle.std.specs.Prelude.{◌≡◌, ℕ, ◌+◌, ◌<◌, ◌≤◌, false, length, IfOk, map, replicate};
 ghost use Rattle.std.specs.List.{All};
-ghost use Rattle.hop_core.specs.Events.{MayAsk, happens};
+ghost use Rattle.hop_model.specs.Events.{MayAsk, happens};
 ghost use Rattle.steer_base.specs.Journals.{new_journals};
-ghost use Rattle.hop_core.specs.Reads.{FitsRoom};
-ghost use Rattle.hop_core.specs.Shape.{classes_for, most_classes, new_hop};
+ghost use Rattle.hop_model.specs.Reads.{FitsRoom};
+ghost use Rattle.hop_model.specs.Shape.{classes_for, most_classes, new_hop};
 ghost use Rattle.hop_core.specs.Sizes.{SameSizes};
-ghost use Rattle.hop_core.specs.Sound.{Sound};
-ghost use Rattle.hop_core.specs.declared.shape.TheConstants.{MAX_HOP_ROOM};
+ghost use Rattle.hop_model.specs.Sound.{Sound};
+ghost use Rattle.hop_model.specs.declared.shape.TheConstants.{MAX_HOP_ROOM};
 
 mod asking;
 mod events;
@@ -16,7 +16,7 @@ mod readers;
 
 use crate::lanes::Lanes;
 use crate::tables::Tables;
-use crate::{HopAnswer, HopEvent, HopShape};
+use hop_model::{HopAnswer, HopEvent, HopShape};
 use std::alloc::Global;
 use std::marker::Model;
 use steer_base::{Chosen, Journals, OutOfMemory, PacketId, round_up};
@@ -36,7 +36,7 @@ pub struct Hop {
 }
 
 impl Model for Hop {
-    ghost use Rattle.hop_core.specs.Hop.{HopState};
+    ghost use Rattle.hop_model.specs.Hop.{HopState};
     ghost use Rattle.hop_core.specs.View.{parts_of, state_of};
     ghost use Rattle.hop_core.specs.Whole.{IsWhole};
 

@@ -5,7 +5,7 @@ ghost use Rattle.steer_base.specs.Counters.{number};
 ghost use Rattle.backlog.specs.Puts.{after_put, after_take, next_waiting, put_answer, put_count};
 ghost use Rattle.hop_core.specs.LaneTable.{lane_at, new_lanes, with_lane};
 ghost use Rattle.hop_core.specs.Left.{left_of};
-ghost use Rattle.hop_core.specs.declared.shape.TheConstants.{MAX_HOP_ROOM};
+ghost use Rattle.hop_model.specs.declared.shape.TheConstants.{MAX_HOP_ROOM};
 
 use crate::left::LeftLane;
 use backlog::Lane;
@@ -26,7 +26,7 @@ pub struct Lanes {
 impl Model for Lanes {
     ghost use Rattle.std.specs.Prelude.{◌≤◌, length, map};
     ghost use Rattle.hop_core.specs.LaneTable.{AreShaped, LaneTable};
-    ghost use Rattle.hop_core.specs.declared.shape.TheConstants.{MAX_HOP_ROOM};
+    ghost use Rattle.hop_model.specs.declared.shape.TheConstants.{MAX_HOP_ROOM};
 
     ghost Value = { LaneTable };
 

@@ -1,5 +1,5 @@
 //! Lemmas on the lists of a hop: functions without code whose contracts state them.
-ghost use Rattle.hop_core.specs.Emptied.{EmptiedIsExact, SetIsAsked};
+ghost use Rattle.hop_model.specs.Emptied.{EmptiedIsExact, SetIsAsked};
 ghost use Rattle.hop_core.specs.Laws.{ChoiceIsByTheRule, ChoicesStay, ClosedIsExact, EndToEnd};
 ghost use Rattle.hop_core.specs.Laws.{EachExplainsDrops, EachKeepsAmple, EachKeepsFlows};
 ghost use Rattle.hop_core.specs.Laws.{EachKeepsOrder, EachKeepsSound, ExplainsDrops, FlowIsInOrder};

@@ -1,17 +1,14 @@
 //! One steered hop: the way of packets from their arrival at a producer to delivery in an out lane.
 #![tactic(auto)]
 
-mod event;
 mod hop;
 mod lanes;
 mod laws;
 mod left;
-mod shape;
 mod shared;
 mod state_laws;
 mod tables;
 
-pub use event::{HopAnswer, HopEvent};
 pub use hop::Hop;
 pub use laws::{
     a_choice_is_decided_by_its_kept_head, a_round_retires_one_packet, ample_lanes_drop_nothing,
@@ -22,7 +19,6 @@ pub use laws::{
     work_goes_on_and_is_bounded,
 };
 pub use left::{HopLists, LeftLane};
-pub use shape::{HopShape, MAX_HOP_ROOM};
 pub use state_laws::{
     counts_of_drops_never_fall, each_event_is_one_of_the_bare_part, each_event_leaves_the_rest,
     nothing_is_lost, settled_hops_let_flows_pass,

@@ -1,6 +1,6 @@
 //! Lemmas on a state of a hop and one event: functions without code whose contracts state them.
-ghost use Rattle.hop_core.specs.BareEvents.{BareKeepsLanes, EachIsBare, EachKeepsDropsRising};
-ghost use Rattle.hop_core.specs.BareEvents.{EachLaneIsItsOwn, FreshDropsRise, SoundHasLanes};
+ghost use Rattle.hop_model.specs.BareEvents.{BareKeepsLanes, EachIsBare, EachKeepsDropsRising};
+ghost use Rattle.hop_model.specs.BareEvents.{EachLaneIsItsOwn, FreshDropsRise, SoundHasLanes};
 ghost use Rattle.hop_core.specs.Leaves.{EachLeaves};
 ghost use Rattle.hop_core.specs.NothingLost.{EachLosesNothing, EachPutIsOnce, LosesNothing};
 ghost use Rattle.hop_core.specs.NothingLost.{FreshLosesNothing};

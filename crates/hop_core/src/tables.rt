@@ -11,7 +11,7 @@ ghost use Rattle.dev_flow_table.specs.Tables.{IsClassOf, cleared, entries, unset
 ghost use Rattle.dev_flow_table.specs.Tables.{with_entry};
 ghost use Rattle.hop_core.specs.FlowTables.{IsSet, LanesBelow, head_from, new_tables, noted};
 ghost use Rattle.hop_core.specs.FlowTables.{table_at, with_rows};
-ghost use Rattle.hop_core.specs.Shape.{classes_for, most_classes};
+ghost use Rattle.hop_model.specs.Shape.{classes_for, most_classes};
 
 use crate::shared::{self, Owned};
 use dev_flow_table::{DevTable, Wish, entry_after};

@@ -27,9 +27,9 @@ use Rattle.hop_rule.specs.declared.step.LaneStep.TheVariants.{OutMissed, OutFree
 use Rattle.hop_rule.specs.declared.step.GateStep.{GateStep}
 use Rattle.hop_rule.specs.declared.step.GateStep.TheVariants.{Entered, Turned, Left, Shut, NotShut}
 use Rattle.hop_rule.specs.declared.step.GateStep.TheVariants.{Opened, Set, Read}
-use Rattle.hop_core.specs.Hop.{Bare, accepted_at, pulled_at}
-use Rattle.hop_core.specs.Hop.{delivered_at, retired_at, next_out, lane_of, landed}
-use Rattle.hop_core.specs.BareEvents.{MayBe, bare_after}
+use Rattle.hop_model.specs.Hop.{Bare, accepted_at, pulled_at}
+use Rattle.hop_model.specs.Hop.{delivered_at, retired_at, next_out, lane_of, landed}
+use Rattle.hop_model.specs.BareEvents.{MayBe, bare_after}
 use Rattle.hop_rule.specs.Deliveries.{Delivery, delivery, delivered_from}
 use Rattle.hop_rule.specs.Sizes.{puller}
 use Rattle.hop_rule.specs.Lanes as lanes

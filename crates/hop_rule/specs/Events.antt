@@ -2,10 +2,11 @@
 use Rattle.std.specs.Prelude.{◌≡◌, ℕ, zero, suc, ◌+◌, true, List, [], ◌∷◌, length, map, nat_lt}
 use Rattle.std.specs.List.{range_with_len}
 use Rattle.linearization.specs.Orders.{StepBy, step_by}
-use Rattle.hop_core.specs.BareEvents.{BareEvent, MayBe, bare_after, nothing, enters, leaves, closes}
-use Rattle.hop_core.specs.BareEvents.{opens, offers, pulls, delivers, retires}
-use Rattle.hop_core.specs.Hop.{Fixed, Bare}
-use Rattle.hop_core.specs.Shape.{fresh_hop}
+use Rattle.hop_model.specs.BareEvents.{BareEvent, MayBe, bare_after, nothing, enters, leaves}
+use Rattle.hop_model.specs.BareEvents.{closes}
+use Rattle.hop_model.specs.BareEvents.{opens, offers, pulls, delivers, retires}
+use Rattle.hop_model.specs.Hop.{Fixed, Bare}
+use Rattle.hop_model.specs.Shape.{fresh_hop}
 use Rattle.hop_rule.specs.Boards.{lanes_of, gates_of, lane_at, IsLawful, visit_of}
 use Rattle.hop_rule.specs.Deliveries.{delivered_from}
 use Rattle.hop_rule.specs.Gates as gates

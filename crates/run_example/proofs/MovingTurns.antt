@@ -10,7 +10,7 @@ use Rattle.steer_base.specs.declared.put.Put.TheVariants.{At}
 use Rattle.dev_flow_table.specs.Tables.{entries}
 use Rattle.dev_flow_table.specs.Walks.{since_resize}
 use Rattle.history.specs.Lists.{arrivals_at, list_at}
-use Rattle.hop_core.specs.Hop.{chosen_at}
+use Rattle.hop_model.specs.Hop.{chosen_at}
 use Rattle.hop_rule.specs.Moments.{nth_step, past}
 use Rattle.hop_rule.specs.Owns.{puts_of}
 use Rattle.hop_rule.specs.declared.step.BoardStep.TheVariants.{Gate, Weighed}

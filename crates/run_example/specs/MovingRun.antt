@@ -18,7 +18,7 @@ use Rattle.steer_base.specs.declared.packet.Packet.{Packet}
 use Rattle.steer_base.specs.declared.step.Step.TheVariants.{Give}
 use Rattle.hint_words.specs.declared.step.HintStep.{HintStep}
 use Rattle.hint_words.specs.declared.step.HintStep.TheVariants.{Load, Store}
-use Rattle.hop_core.specs.declared.shape.TheConstants.{MAX_HOP_ROOM}
+use Rattle.hop_model.specs.declared.shape.TheConstants.{MAX_HOP_ROOM}
 use Rattle.history.specs.Lists.{lane_at, list_at}
 use Rattle.history.specs.declared.history.History.{History}
 use Rattle.history.specs.declared.sock_write.SockWrite.{SockWrite}

@@ -19,7 +19,7 @@ use Rattle.hint_words.specs.declared.step.HintStep.TheVariants.{Load, Store}
 use Rattle.history.specs.Lists.{list_at}
 use Rattle.history.specs.declared.history.History.{History}
 use Rattle.history.specs.declared.sock_write.SockWrite.{SockWrite}
-use Rattle.hop_core.specs.Hop.{chosen_at, nobody}
+use Rattle.hop_model.specs.Hop.{chosen_at, nobody}
 use Rattle.hop_rule.specs.Moments.{nth_step}
 use Rattle.hop_rule.proofs.Lists.{none-some, some-is}
 use Rattle.hop_rule.specs.declared.step.BoardStep.{BoardStep}

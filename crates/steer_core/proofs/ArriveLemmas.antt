@@ -1,8 +1,8 @@
 -- The arrival of the next packet, by the numbers that the code has.
 use Rattle.std.proofs.Common.{ℕ, ◌<◌, ◌≡◌, [], ◌∷◌, ◌++◌, length, ap, ◌∙◌, sym, subst}
-use Rattle.hop_core.specs.declared.event.HopEvent.TheVariants as event
-use Rattle.hop_core.specs.Events.{MayAsk, happens}
-use Rattle.hop_core.specs.Hop.{HopState}
+use Rattle.hop_model.specs.declared.event.HopEvent.TheVariants as event
+use Rattle.hop_model.specs.Events.{MayAsk, happens}
+use Rattle.hop_model.specs.Hop.{HopState}
 use Rattle.history.specs.declared.arrival.Arrival.{Arrival}
 use Rattle.steer_model.specs.State.Machine.{Machine}
 use Rattle.steer_invariant.specs.Invariant.{Invariant}

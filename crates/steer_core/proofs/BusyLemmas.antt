@@ -7,9 +7,9 @@ use Rattle.steer_base.specs.Sets.{has}
 use Rattle.steer_base.specs.declared.cpu_mask.CpuMask.{CpuMask}
 use Rattle.steer_base.specs.declared.step.Step.{Step}
 use Rattle.steer_base.specs.declared.step.Step.TheVariants as act
-use Rattle.hop_core.specs.Events.{IsEmptied}
-use Rattle.hop_core.specs.Hop.{Bare, HopState, accepted_at, arrivals_of, inside_of}
-use Rattle.hop_core.specs.Hop.{out_at, placed_of, retired_at}
+use Rattle.hop_model.specs.Events.{IsEmptied}
+use Rattle.hop_model.specs.Hop.{Bare, HopState, accepted_at, arrivals_of, inside_of}
+use Rattle.hop_model.specs.Hop.{out_at, placed_of, retired_at}
 use Rattle.history.specs.declared.sent.Sent.{Sent}
 use Rattle.steer_model.specs.State.Machine.{Machine}
 use Rattle.steer_model.specs.State.Setup.{Setup}

@@ -4,7 +4,7 @@ use Rattle.std.proofs.Common.{arith, replicate}
 use Rattle.steer_base.specs.declared.packet.Packet.{Packet}
 use Rattle.steer_base.specs.declared.step.Step.{Step}
 use Rattle.steer_base.specs.declared.step.Step.TheVariants as act
-use Rattle.hop_core.specs.Hop.{placed_of}
+use Rattle.hop_model.specs.Hop.{placed_of}
 use Rattle.hop_core.proofs.New.{at_new}
 use Rattle.history.specs.Lists.{list_at}
 use Rattle.history.specs.declared.sock_write.SockWrite.{SockWrite}

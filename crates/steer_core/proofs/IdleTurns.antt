@@ -8,23 +8,23 @@ use Rattle.std.specs.Prelude.{◌&&◌, ◌||◌, is_some, nat_lt, not, slice_ge
 use Rattle.std.specs.Prelude.{slice_index_or}
 use Rattle.steer_base.specs.declared.step.Step.{Step}
 use Rattle.steer_base.specs.declared.step.Step.TheVariants as act
-use Rattle.hop_core.specs.declared.event.HopEvent.TheVariants as event
-use Rattle.hop_core.specs.Events.{happens}
-use Rattle.hop_core.specs.Hop.{HopState, arrivals_of, choices_of, inside_of, out_at, placed_of}
-use Rattle.hop_core.specs.Hop.{taken_of}
+use Rattle.hop_model.specs.declared.event.HopEvent.TheVariants as event
+use Rattle.hop_model.specs.Events.{happens}
+use Rattle.hop_model.specs.Hop.{HopState, arrivals_of, choices_of, inside_of, out_at, placed_of}
+use Rattle.hop_model.specs.Hop.{taken_of}
 use Rattle.hop_core.specs.Leaves.{Field}
 use Rattle.hop_core.proofs.Leaves.{each_leaves}
 use Rattle.steer_model.specs.State.Machine.{Machine, note_of}
 use Rattle.steer_model.specs.Steps.Applications.{next_in, sent_of}
 use Rattle.steer_model.specs.Steps.CompoundSteps.{Progress, poll, reply, replying, serve, tried}
 use Rattle.steer_model.specs.Steps.CompoundSteps.{tries, with_record}
-use Rattle.steer_model.specs.Steps.IdleReasons.{Need, Stage, answer_by_needs, is_at, needs}
-use Rattle.steer_model.specs.Steps.IdleReasons.{poller_hand, poller_stage, puts_next, sender_hand}
-use Rattle.steer_model.specs.Steps.IdleReasons.{sender_stage, weighs_next}
-use Rattle.steer_model.specs.Steps.IdleReasons as stage
+use Rattle.step_laws.specs.IdleReasons.{Need, Stage, answer_by_needs, is_at, needs}
+use Rattle.step_laws.specs.IdleReasons.{poller_hand, poller_stage, puts_next, sender_hand}
+use Rattle.step_laws.specs.IdleReasons.{sender_stage, weighs_next}
+use Rattle.step_laws.specs.IdleReasons as stage
 use Rattle.steer_model.specs.Steps.SingleSteps.{is_command, is_idle, is_work, simple}
 use Rattle.steer_model.specs.declared.note.Note.TheVariants as note
-use Rattle.steer_model.proofs.Steps.ReasonLemmas.{idle_for_first_reason}
+use Rattle.step_laws.proofs.ReasonLemmas.{idle_for_first_reason}
 use Rattle.steer_invariant.specs.StepInvariant.{StepInvariant}
 use Rattle.steer_invariant.proofs.StepInvariant.SingleStepLemmas.{goes-simple}
 use Rattle.steer_properties.proofs.Sweep.IdleTurnLemmas.{idle-leaves, idle-tries, tried-before}

@@ -7,8 +7,8 @@ use Rattle.steer_base.specs.Counters.{rounded_up}
 use Rattle.steer_base.specs.Journals.{Journal, Journals, journal, new_journals}
 use Rattle.steer_base.specs.declared.filter.Filter.{Filter}
 use Rattle.steer_base.specs.declared.packet.Packet.{Packet}
-use Rattle.hop_core.specs.Hop.{HopState}
-use Rattle.hop_core.specs.Shape.{classes_for, fresh_hop}
+use Rattle.hop_model.specs.Hop.{HopState}
+use Rattle.hop_model.specs.Shape.{classes_for, fresh_hop}
 use Rattle.accel_filter.specs.Table as table
 use Rattle.sock_flow_table.specs.Sockets as sockets
 use Rattle.history.specs.declared.arrival.Arrival.{Arrival}

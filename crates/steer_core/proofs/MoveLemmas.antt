@@ -2,7 +2,7 @@
 use Rattle.std.proofs.Common.{◌≡◌, ◌∙◌, length, map, refl, ap}
 use Rattle.std.specs.List.{range_with_len}
 use mathlib.Core.List.{map-map}
-use Rattle.hop_core.specs.Hop.{Bare, HopState}
+use Rattle.hop_model.specs.Hop.{Bare, HopState}
 use Rattle.hop_core.specs.Left.{left_lane, left_lanes}
 use Rattle.hop_core.specs.declared.left.HopLists.{HopLists}
 use Rattle.steer_model.specs.State.Machine.{history_lanes}

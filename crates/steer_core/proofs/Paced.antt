@@ -1,6 +1,6 @@
 -- How far a step lets the lists of writes and of commands grow.
 use Rattle.std.proofs.Common.{ℕ, ◌+◌, ◌≤◌, ◌≡◌, List, length, ap, ◌∙◌, sym, subst, arith, refl}
-use Rattle.hop_core.specs.Hop.{placed_of}
+use Rattle.hop_model.specs.Hop.{placed_of}
 use Rattle.history.specs.Lists.{list_at}
 use Rattle.history.specs.declared.sock_write.SockWrite.{SockWrite}
 use Rattle.steer_model.specs.State.Machine.{Machine}

@@ -8,7 +8,7 @@ use Rattle.steer_base.specs.declared.command.Command.{Command}
 use Rattle.steer_base.specs.declared.command.Command.TheVariants as give
 use Rattle.steer_base.specs.declared.step.Step.{Step}
 use Rattle.steer_base.specs.declared.step.Step.TheVariants as act
-use Rattle.hop_core.specs.Hop.{HopState, placed_of}
+use Rattle.hop_model.specs.Hop.{HopState, placed_of}
 use Rattle.hop_core.proofs.Lists.{length-push}
 use Rattle.history.specs.Lists.{list_at}
 use Rattle.history.specs.declared.commanded.Commanded.{Commanded}

@@ -10,9 +10,9 @@ use Rattle.std.proofs.lemmas.List.{get_or-set_other, get_or-set_same}
 use Rattle.steer_base.specs.declared.command.Answer.TheVariants as says
 use Rattle.steer_base.specs.declared.idle.Idle.TheVariants as idle
 use Rattle.steer_base.specs.declared.packet.Packet.{Packet}
-use Rattle.hop_core.specs.declared.event.HopEvent.TheVariants as event
-use Rattle.hop_core.specs.Events.{happens}
-use Rattle.hop_core.specs.Hop.{HopState, placed_of}
+use Rattle.hop_model.specs.declared.event.HopEvent.TheVariants as event
+use Rattle.hop_model.specs.Events.{happens}
+use Rattle.hop_model.specs.Hop.{HopState, placed_of}
 use Rattle.hop_core.specs.Leaves.{Field}
 use Rattle.hop_core.proofs.Leaves.{each_leaves}
 use Rattle.hop_core.proofs.Lists.{length-push}

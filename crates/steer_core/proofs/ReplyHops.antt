@@ -8,12 +8,12 @@ use Rattle.std.proofs.lemmas.List.{get_or-set_same}
 use Rattle.steer_base.specs.declared.choice.Chosen.{Chosen}
 use Rattle.steer_base.specs.declared.cpu_mask.CpuMask.{CpuMask}
 use Rattle.steer_base.specs.declared.idle.Idle.TheVariants as idle
-use Rattle.hop_core.specs.declared.event.HopAnswer.TheVariants as answer
-use Rattle.hop_core.specs.declared.event.HopEvent.TheVariants as event
-use Rattle.hop_core.specs.Events.{Outcome, happens, idles}
-use Rattle.hop_core.specs.Hop.{HopState, arrivals_of, choice_of, choices_of, chose}
-use Rattle.hop_core.specs.Hop.{inside_of}
-use Rattle.hop_core.specs.Hop.{next_of, placed_of, put_one, taken_of, took, with_visit}
+use Rattle.hop_model.specs.declared.event.HopAnswer.TheVariants as answer
+use Rattle.hop_model.specs.declared.event.HopEvent.TheVariants as event
+use Rattle.hop_model.specs.Events.{Outcome, happens, idles}
+use Rattle.hop_model.specs.Hop.{HopState, arrivals_of, choice_of, choices_of, chose}
+use Rattle.hop_model.specs.Hop.{inside_of}
+use Rattle.hop_model.specs.Hop.{next_of, placed_of, put_one, taken_of, took, with_visit}
 use Rattle.hop_core.proofs.Lists.{length-push}
 use Rattle.steer_invariant.proofs.EitherLemmas.{either}
 

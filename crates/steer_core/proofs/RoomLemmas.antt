@@ -1,6 +1,6 @@
 -- There is room in the machine's lists for what its steps append.
 use Rattle.std.proofs.Common.{ℕ, ◌+◌, ◌≤◌, ◌<◌, length, arith}
-use Rattle.hop_core.specs.Hop.{choices_of, placed_of}
+use Rattle.hop_model.specs.Hop.{choices_of, placed_of}
 use Rattle.hop_core.proofs.Fits.{fits_room}
 use Rattle.history.specs.Lists.{list_at}
 use Rattle.steer_model.specs.State.Machine.{Machine}

@@ -8,14 +8,14 @@ use Rattle.steer_base.specs.declared.command.Answer.TheVariants as says
 use Rattle.steer_base.specs.declared.idle.Idle.TheVariants as idle
 use Rattle.steer_base.specs.declared.step.Step.{Step}
 use Rattle.steer_base.specs.declared.step.Step.TheVariants as act
-use Rattle.hop_core.specs.declared.event.HopEvent.{HopEvent}
-use Rattle.hop_core.specs.declared.event.HopEvent.TheVariants as event
-use Rattle.hop_core.specs.Events.{happens}
-use Rattle.hop_core.specs.Hop.{HopState, accepted_at, choices_of, in_hand, inside_of}
-use Rattle.hop_core.specs.Hop.{placed_of, retired_at}
+use Rattle.hop_model.specs.declared.event.HopEvent.{HopEvent}
+use Rattle.hop_model.specs.declared.event.HopEvent.TheVariants as event
+use Rattle.hop_model.specs.Events.{happens}
+use Rattle.hop_model.specs.Hop.{HopState, accepted_at, choices_of, in_hand, inside_of}
+use Rattle.hop_model.specs.Hop.{placed_of, retired_at}
 use Rattle.hop_core.specs.Leaves.{Field, changes}
 use Rattle.hop_core.specs.Others.{changed_lane}
-use Rattle.hop_core.specs.Reads.{to_put, to_weigh}
+use Rattle.hop_model.specs.Reads.{to_put, to_weigh}
 use Rattle.hop_core.proofs.Leaves.{each_leaves}
 use Rattle.hop_core.proofs.Others.{each_leaves_lanes}
 use Rattle.history.specs.declared.arrival.Arrival.{Arrival}

@@ -8,15 +8,15 @@ use Rattle.steer_base.specs.declared.command.Answer.TheVariants as says
 use Rattle.steer_base.specs.declared.idle.Idle.TheVariants as idle
 use Rattle.steer_base.specs.declared.step.Step.{Step}
 use Rattle.steer_base.specs.declared.step.Step.TheVariants as act
-use Rattle.hop_core.specs.declared.event.HopEvent.{HopEvent}
-use Rattle.hop_core.specs.declared.event.HopEvent.TheVariants as event
-use Rattle.hop_core.specs.Events.{Outcome, happens, idles}
-use Rattle.hop_core.specs.declared.event.HopAnswer.TheVariants as answer
-use Rattle.hop_core.specs.Hop.{HopState, arrivals_of, choices_of, inside_of, placed_of, taken_of}
-use Rattle.hop_core.specs.Hop.{with_visit}
+use Rattle.hop_model.specs.declared.event.HopEvent.{HopEvent}
+use Rattle.hop_model.specs.declared.event.HopEvent.TheVariants as event
+use Rattle.hop_model.specs.Events.{Outcome, happens, idles}
+use Rattle.hop_model.specs.declared.event.HopAnswer.TheVariants as answer
+use Rattle.hop_model.specs.Hop.{HopState, arrivals_of, choices_of, inside_of, placed_of, taken_of}
+use Rattle.hop_model.specs.Hop.{with_visit}
 use Rattle.hop_core.specs.Leaves.{Field, changes}
 use Rattle.hop_core.specs.Others.{producer_of}
-use Rattle.hop_core.specs.Reads.{to_weigh}
+use Rattle.hop_model.specs.Reads.{to_weigh}
 use Rattle.hop_core.proofs.Leaves.{each_leaves}
 use Rattle.hop_core.proofs.Others.{each_leaves_producers}
 use Rattle.steer_model.specs.State.Machine.{Machine, note_of}

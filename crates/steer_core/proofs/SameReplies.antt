@@ -8,13 +8,13 @@ use Rattle.steer_base.specs.declared.command.Answer.TheVariants as says
 use Rattle.steer_base.specs.declared.idle.Idle.TheVariants as idle
 use Rattle.steer_base.specs.declared.step.Step.{Step}
 use Rattle.steer_base.specs.declared.step.Step.TheVariants as act
-use Rattle.hop_core.specs.declared.event.HopEvent.{HopEvent}
-use Rattle.hop_core.specs.declared.event.HopEvent.TheVariants as event
-use Rattle.hop_core.specs.declared.event.HopAnswer.TheVariants as answer
-use Rattle.hop_core.specs.Events.{Outcome, happens, idles}
-use Rattle.hop_core.specs.Hop.{HopState, arrivals_of, deliver_at, delivered_at}
-use Rattle.hop_core.specs.Hop.{inside_of, out_at, placed_of, pulled_at, retired_at, taken_of}
-use Rattle.hop_core.specs.Hop.{with_bare}
+use Rattle.hop_model.specs.declared.event.HopEvent.{HopEvent}
+use Rattle.hop_model.specs.declared.event.HopEvent.TheVariants as event
+use Rattle.hop_model.specs.declared.event.HopAnswer.TheVariants as answer
+use Rattle.hop_model.specs.Events.{Outcome, happens, idles}
+use Rattle.hop_model.specs.Hop.{HopState, arrivals_of, deliver_at, delivered_at}
+use Rattle.hop_model.specs.Hop.{inside_of, out_at, placed_of, pulled_at, retired_at, taken_of}
+use Rattle.hop_model.specs.Hop.{with_bare}
 use Rattle.hop_core.specs.Leaves.{Field, changes}
 use Rattle.hop_core.proofs.Leaves.{each_leaves}
 use Rattle.hop_core.proofs.Others.{each_leaves_lanes}

@@ -8,7 +8,7 @@ use Rattle.std.proofs.lemmas.Bool.{cases_eq, lt-ltb, ltb-true}
 use Rattle.std.proofs.lemmas.List.{get_or-map}
 use Rattle.steer_base.specs.Apps.{app_of}
 use Rattle.steer_base.specs.declared.step.Step.TheVariants as act
-use Rattle.hop_core.specs.Hop.{HopState, accepted_at, arrivals_of, out_at, placed_of, taken_of}
+use Rattle.hop_model.specs.Hop.{HopState, accepted_at, arrivals_of, out_at, placed_of, taken_of}
 use Rattle.hop_core.proofs.Fits.{put_below}
 use Rattle.history.specs.Lists.{app_at, list_at}
 use Rattle.history.specs.declared.sent.Sent.{Sent}

@@ -7,9 +7,9 @@ use Rattle.steer_base.specs.declared.command.Answer.TheVariants as says
 use Rattle.steer_base.specs.declared.idle.Idle.TheVariants as idle
 use Rattle.steer_base.specs.declared.step.Step.{Step}
 use Rattle.steer_base.specs.declared.step.Step.TheVariants as act
-use Rattle.hop_core.specs.Events.{IsEmptied}
-use Rattle.hop_core.specs.Sound.{Sound}
-use Rattle.hop_core.specs.Hop.{Bare, HopState, accepted_at, retired_at}
+use Rattle.hop_model.specs.Events.{IsEmptied}
+use Rattle.hop_model.specs.Sound.{Sound}
+use Rattle.hop_model.specs.Hop.{Bare, HopState, accepted_at, retired_at}
 use Rattle.steer_model.specs.State.Machine.{Machine}
 use Rattle.steer_model.specs.Steps.CompoundSteps.{Progress, again, drain, drain_one, for_each}
 use Rattle.steer_model.specs.Steps.CompoundSteps.{most_rounds, poll, rounds, serve, ship}

@@ -1,6 +1,6 @@
 -- The parts of a history, and the history that they make.
 use Rattle.std.specs.Prelude.{[], slice_index_or}
-use Rattle.hop_core.specs.Hop.{HopState}
+use Rattle.hop_model.specs.Hop.{HopState}
 use Rattle.history.specs.declared.history.History.{History}
 use Rattle.steer_model.specs.State.Machine.{Machine, history_lanes}
 use Rattle.steer_core.specs.declared.parts.BesidePart.{BesidePart}

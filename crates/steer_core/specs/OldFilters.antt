@@ -3,7 +3,7 @@ use Rattle.std.specs.Prelude.{◌<◌, ◌≤◌, Bool, false, Option, Some, Non
 use Rattle.std.specs.Prelude.{slice_index, if◌then◌else◌}
 use Rattle.steer_base.specs.Filters.{may_expire}
 use Rattle.steer_base.specs.declared.filter.Filter.{Filter}
-use Rattle.hop_core.specs.Hop.{HopState, head_at}
+use Rattle.hop_model.specs.Hop.{HopState, head_at}
 use Rattle.steer_model.specs.State.Settings.{Settings}
 use Rattle.steer_base.specs.declared.limits.TheConstants.{MAX_FLOW_COUNT}
 

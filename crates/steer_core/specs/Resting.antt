@@ -4,10 +4,10 @@ use Rattle.std.specs.Prelude.{if◌then◌else◌}
 use Rattle.steer_base.specs.Sets.{has}
 use Rattle.steer_base.specs.declared.choice.Chosen.{Chosen}
 use Rattle.steer_base.specs.declared.cpu_mask.CpuMask.{CpuMask}
-use Rattle.hop_core.specs.Events.{IsEmptied}
-use Rattle.hop_core.specs.Hop.{HopState, accepted_at, arrivals_of, inside_of, out_at, placed_of}
-use Rattle.hop_core.specs.Hop.{retired_at}
-use Rattle.hop_core.specs.Reads.{to_put}
+use Rattle.hop_model.specs.Events.{IsEmptied}
+use Rattle.hop_model.specs.Hop.{HopState, accepted_at, arrivals_of, inside_of, out_at, placed_of}
+use Rattle.hop_model.specs.Hop.{retired_at}
+use Rattle.hop_model.specs.Reads.{to_put}
 use Rattle.steer_model.specs.State.Machine.{Machine}
 use Rattle.steer_model.specs.State.Setup.{packet_hash}
 use Rattle.steer_model.specs.Steps.CompoundSteps.{Progress, one_round}

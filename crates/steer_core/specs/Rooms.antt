@@ -2,7 +2,7 @@
 use Rattle.std.specs.Prelude.{ℕ, ◌+◌, ◌<◌, length}
 use Rattle.steer_base.specs.declared.step.Step.{Step}
 use Rattle.steer_base.specs.declared.step.Step.TheVariants as act
-use Rattle.hop_core.specs.Hop.{placed_of}
+use Rattle.hop_model.specs.Hop.{placed_of}
 use Rattle.history.specs.Lists.{list_at}
 use Rattle.steer_model.specs.State.Machine.{Machine}
 use Rattle.steer_core.specs.Running.{Rooms}

@@ -2,7 +2,7 @@
 use Rattle.std.specs.Prelude.{ℕ, ◌≡◌, List, Option, length}
 use Rattle.steer_base.specs.Journals.{Journal, Journals}
 use Rattle.steer_base.specs.declared.filter.Filter.{Filter}
-use Rattle.hop_core.specs.Hop.{HopState}
+use Rattle.hop_model.specs.Hop.{HopState}
 use Rattle.history.specs.declared.arrival.Arrival.{Arrival}
 use Rattle.history.specs.declared.commanded.Commanded.{Commanded}
 use Rattle.history.specs.declared.sent.Sent.{Sent}

@@ -2,7 +2,7 @@
 use Rattle.std.specs.Prelude.{ℕ, ◌+◌, ◌≤◌, ◌≡◌, List, Option, length}
 use Rattle.steer_base.specs.declared.packet.Packet.{Packet}
 use Rattle.steer_base.specs.declared.step.Step.{Step}
-use Rattle.hop_core.specs.Hop.{placed_of}
+use Rattle.hop_model.specs.Hop.{placed_of}
 use Rattle.history.specs.Lists.{list_at}
 use Rattle.plan_reader.specs.Plans.{step_count}
 use Rattle.plan_reader.specs.declared.plan.Plan.{Plan}

@@ -14,6 +14,7 @@ mod busy;
 mod changes;
 mod commands;
 mod copies;
+mod hops;
 mod make;
 mod moves;
 mod old_filters;

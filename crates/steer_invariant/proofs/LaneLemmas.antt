@@ -7,11 +7,11 @@ use Rattle.std.proofs.lemmas.Bool.{cases_lt}
 use Rattle.std.proofs.lemmas.List.{get_or-map}
 use Rattle.std.proofs.lemmas.List.FromFn.{get_or-map-range_with_len, length-map-range_with_len}
 use Rattle.steer_base.specs.Orders.{Apart, IsPrefix}
-use Rattle.hop_core.specs.Hop.{HopState, accepted_at, arrivals_of, choices_of, chosen_at}
-use Rattle.hop_core.specs.Hop.{delivered_at, drops_at, fell_at, nobody, out_at, placed_of}
-use Rattle.hop_core.specs.Hop.{pulled_at, retired_at}
+use Rattle.hop_model.specs.Hop.{HopState, accepted_at, arrivals_of, choices_of, chosen_at}
+use Rattle.hop_model.specs.Hop.{delivered_at, drops_at, fell_at, nobody, out_at, placed_of}
+use Rattle.hop_model.specs.Hop.{pulled_at, retired_at}
 use Rattle.hop_core.specs.Laws.{fallen}
-use Rattle.hop_core.specs.Sound.{Puts, Sound}
+use Rattle.hop_model.specs.Sound.{Puts, Sound}
 use Rattle.hop_core.proofs.Apart.{HasPlaces-from}
 use Rattle.history.specs.Finding.{is_among, is_in}
 use Rattle.history.specs.Lines.{choice_in}

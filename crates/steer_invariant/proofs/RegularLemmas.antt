@@ -1,8 +1,8 @@
 -- The history of a machine is regular, and each packet in it is in one place.
 use Rattle.std.proofs.Common.{◌≤◌, ◌≡◌, map, length, ap, ◌∙◌, sym, subst}
 use Rattle.steer_base.specs.Orders.{IsPrefix}
-use Rattle.hop_core.specs.Hop.{choices_of, out_at, taken_of}
-use Rattle.hop_core.specs.Sound.{Sound}
+use Rattle.hop_model.specs.Hop.{choices_of, out_at, taken_of}
+use Rattle.hop_model.specs.Sound.{Sound}
 use Rattle.history.specs.Places.{AreInOnePlace, InboxesAreDelivered}
 use Rattle.history.specs.Regular.{AreDelivered, AreMatched, AreQueued, AreReplies, AreShipped}
 use Rattle.history.specs.Regular.{AreSteered, HaveArrived, Regular}

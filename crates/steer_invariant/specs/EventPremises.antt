@@ -5,9 +5,9 @@ use Rattle.std.specs.Prelude.{slice_index, slice_index_or}
 use Rattle.steer_base.specs.declared.command.Command.TheVariants as give
 use Rattle.steer_base.specs.declared.filter.Filter.{Filter}
 use Rattle.steer_base.specs.declared.limits.TheConstants.{MAX_FLOW_COUNT}
-use Rattle.hop_core.specs.declared.event.HopEvent.TheVariants as event
-use Rattle.hop_core.specs.Events.{AllMayAsk, MayAsk}
-use Rattle.hop_core.specs.Hop.{next_of}
+use Rattle.hop_model.specs.declared.event.HopEvent.TheVariants as event
+use Rattle.hop_model.specs.Events.{AllMayAsk, MayAsk}
+use Rattle.hop_model.specs.Hop.{next_of}
 use Rattle.history.specs.declared.sent.Sent.{Sent}
 use Rattle.steer_model.specs.Steps.Applications.{next_in, sending}
 use Rattle.steer_model.specs.Steps.Commands.{answer_to, is_done}

@@ -2,12 +2,12 @@
 use Rattle.std.specs.Prelude.{ℕ, ◌+◌, ◌<◌, ◌≤◌, ◌≡◌, true, false, List, length, max, replicate}
 use Rattle.std.specs.Prelude.{slice_index, slice_index_or}
 use Rattle.steer_base.specs.Sets.{has}
-use Rattle.hop_core.specs.Events.{IsEmptied}
-use Rattle.hop_core.specs.Hop.{HopState, arrivals_of, choices_of, in_hand, placed_of, taken_of}
+use Rattle.hop_model.specs.Events.{IsEmptied}
+use Rattle.hop_model.specs.Hop.{HopState, arrivals_of, choices_of, in_hand, placed_of, taken_of}
 use Rattle.hop_core.specs.Laws.{Ample}
 use Rattle.hop_core.specs.NothingLost.{NothingLost}
 use Rattle.hop_core.specs.Settled.{SettledIn}
-use Rattle.hop_core.specs.Sound.{Sound}
+use Rattle.hop_model.specs.Sound.{Sound}
 use Rattle.steer_model.specs.Capture.FlowCounts.{flow_count}
 use Rattle.steer_model.specs.State.Settings.{Settings, class_at, plain_lane}
 use Rattle.steer_model.specs.State.Setup.{Setup}

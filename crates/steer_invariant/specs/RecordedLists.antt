@@ -5,7 +5,7 @@ use Rattle.std.specs.List.{All}
 use Rattle.steer_base.specs.Arrivals.{IsRoute}
 use Rattle.steer_base.specs.declared.choice.Chosen.{Chosen}
 use Rattle.steer_base.specs.declared.packet.Packet.{Packet}
-use Rattle.hop_core.specs.Hop.{choices_of, out_at}
+use Rattle.hop_model.specs.Hop.{choices_of, out_at}
 use Rattle.history.specs.Lists.{app_at, arrival_of, list_at, packet_at}
 use Rattle.history.specs.Regular.{has_text, route_of}
 use Rattle.history.specs.declared.arrival.Arrival.{Arrival}

@@ -3,7 +3,7 @@ use Rattle.std.specs.Prelude.{◌≡◌, true, List, length}
 use Rattle.std.specs.List.{AllPass}
 use Rattle.steer_base.specs.declared.command.Command.{Command}
 use Rattle.steer_base.specs.declared.step.Step.{Step}
-use Rattle.hop_core.specs.Hop.{arrivals_of, out_at}
+use Rattle.hop_model.specs.Hop.{arrivals_of, out_at}
 use Rattle.history.specs.Lists.{list_at}
 use Rattle.plan_reader.specs.Ranges.{command_is_within, step_is_within}
 use Rattle.plan_reader.specs.declared.settings.sizes.Sizes.{Sizes}

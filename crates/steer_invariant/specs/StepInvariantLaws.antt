@@ -1,7 +1,7 @@
 -- Laws of what the machine keeps.
 use Rattle.std.specs.Prelude.{ℕ, ◌≡◌, false, List, []}
 use Rattle.steer_base.specs.declared.step.Step.{Step}
-use Rattle.hop_core.specs.Hop.{drops_at}
+use Rattle.hop_model.specs.Hop.{drops_at}
 use Rattle.steer_model.specs.State.Machine.{Machine}
 use Rattle.steer_model.specs.Steps.SingleSteps.{simple}
 use Rattle.steer_model.specs.Steps.CompoundSteps.{after, step}

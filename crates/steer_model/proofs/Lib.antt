@@ -1,4 +1,3 @@
 pub mod Capture
 pub mod Steps
-pub mod Origins
 pub mod Good

@@ -1,6 +1,1 @@
-pub mod HandLemmas
-pub mod IdleLemmas
-pub mod LiftLemmas
 pub mod ReadLemmas
-pub mod ReasonLemmas
-pub mod StageLemmas

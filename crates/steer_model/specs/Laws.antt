@@ -1,4 +1,2 @@
 pub mod GoodHistories
 pub mod Packets
-pub mod Settings
-pub mod Steps

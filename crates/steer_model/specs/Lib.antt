@@ -2,5 +2,4 @@ pub mod State
 pub mod Steps
 pub mod Good
 pub mod Laws
-pub mod Origins
 pub mod Capture

@@ -4,4 +4,3 @@ pub mod Applications
 pub mod Commands
 pub mod SingleSteps
 pub mod CompoundSteps
-pub mod IdleReasons

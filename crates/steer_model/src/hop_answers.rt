@@ -1,11 +1,10 @@
-//! What the machine reads from the answers and the choices of a hop.
-ghost use Rattle.std.specs.Prelude.{◌≡◌, ◌<◌, length};
-ghost use Rattle.steer_model.specs.State.Machine.{last_chosen as last_choice_of};
+//! What the machine reads from the answers of a hop.
+ghost use Rattle.std.specs.Prelude.{◌≡◌};
 ghost use Rattle.steer_model.specs.Steps.Outcomes.{told as told_by};
 ghost use Rattle.steer_model.specs.Steps.Pollers.{put_position as position_in};
 
-use hop_core::{Hop, HopAnswer};
-use steer_base::{Answer, Choice, Chosen, PacketId, Put, Why};
+use hop_model::HopAnswer;
+use steer_base::{Answer, Put};
 
 /// The machine's answer for an answer of a hop: the reason for which the event was idle, otherwise
 /// done.
@@ -25,26 +24,5 @@ pub fn position_of(answer: &HopAnswer) -> Option<u32>
     match answer {
         HopAnswer::Went(Put::At(position)) => Some(*position),
         _ => None,
-    }
-}
-
-/// The last choice of a producer; if it made none, a plain choice of lane 0 for packet 0.
-pub fn last_of(hop: &Hop, p: u8) -> Chosen
-    requires { p < length hop.now.arrivals }
-    ensures { result ≡ last_choice_of hop.now p }
-{
-    match hop.last_choice(p) {
-        Some(chosen) => chosen,
-        None => Chosen {
-            id: PacketId(0),
-            choice: Choice {
-                class: None,
-                head: None,
-                tail: None,
-                want: None,
-                lane: 0,
-                why: Why::Plain,
-            },
-        },
     }
 }

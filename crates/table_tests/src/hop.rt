@@ -1,7 +1,7 @@
 //! Hops played by worked traces, with the choices, positions and answers that they must give.
 ghost use Rattle.std.specs.Prelude.{◌<◌, ◌≤◌, length};
 ghost use Rattle.steer_base.specs.declared.limits.TheConstants.{MAX_FLOW_COUNT};
-ghost use Rattle.hop_core.specs.declared.shape.TheConstants.{MAX_HOP_ROOM};
+ghost use Rattle.hop_model.specs.declared.shape.TheConstants.{MAX_HOP_ROOM};
 
 use crate::equal::same;
 use crate::lanes::wanted;
@@ -10,7 +10,8 @@ use crate::traces::{
     MOVING, OFFLINE, PLAIN, Packet, RESIZING, SECOND, WRAPPING,
 };
 use dev_flow_table::MAX_EXACT_CLASSES;
-use hop_core::{Hop, HopAnswer, HopEvent, HopShape, MAX_HOP_ROOM};
+use hop_core::Hop;
+use hop_model::{HopAnswer, HopEvent, HopShape, MAX_HOP_ROOM};
 use std::alloc::Global;
 use std::process::Abort;
 use std::test::Fail;

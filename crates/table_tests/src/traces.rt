@@ -1,5 +1,5 @@
 //! Traces of hops, worked by hand.
-use hop_core::MAX_HOP_ROOM;
+use hop_model::MAX_HOP_ROOM;
 use steer_base::{Busy, Choice, CpuMask, DropCause, Put, Why};
 
 // The hashes of the flow 66.9.149.187:2794 to 161.142.100.80:1766 and of its neighbour in

@@ -3,7 +3,7 @@ use Rattle.std.specs.Prelude.{◌≡◌, ℕ, ◌+◌, List, Option, length, All
 use Rattle.std.specs.Vec.{vec_len}
 use Rattle.linearization.specs.Seats.{SeatView, new_seats}
 use Rattle.steer_base.specs.declared.packet.Packet.{Packet}
-use Rattle.hop_core.specs.declared.shape.TheConstants.{MAX_HOP_ROOM}
+use Rattle.hop_model.specs.declared.shape.TheConstants.{MAX_HOP_ROOM}
 use Rattle.hint_words.specs.declared.step.HintStep.{HintStep}
 use Rattle.hop_rule.specs.declared.sizes.BoardSizes.{BoardSizes}
 use Rattle.board_api.specs.Seats.{BoardSeatView}

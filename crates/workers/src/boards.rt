@@ -9,7 +9,7 @@ ghost use Rattle.workers.specs.Boards.{receive_sizes, transmit_sizes};
 use board_api::BoardSeat;
 use hint_words::{HintSeat, Hints};
 use hop_board::Board;
-use hop_core::{HopShape, MAX_HOP_ROOM};
+use hop_model::{HopShape, MAX_HOP_ROOM};
 use plan_reader::Plan;
 use run_words::{Shared, first_receive_settings, first_transmit_settings, word_count};
 use std::alloc::Global;

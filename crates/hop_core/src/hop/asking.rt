@@ -1,11 +1,11 @@
 //! Which events may be asked of a hop.
 ghost use Rattle.std.specs.Prelude.{◌≡◌, ℕ, ◌<◌, ◌≢◌, false, IsTrue, length, slice_index};
 ghost use Rattle.steer_base.specs.Sets.{has};
-ghost use Rattle.hop_core.specs.Events.{IsClassBelow, IsEmptied, MayAsk};
-ghost use Rattle.hop_core.specs.Hop.{arrivals_of};
+ghost use Rattle.hop_model.specs.Events.{IsClassBelow, IsEmptied, MayAsk};
+ghost use Rattle.hop_model.specs.Hop.{arrivals_of};
 
-use crate::HopEvent;
 use crate::hop::Hop;
+use hop_model::HopEvent;
 use steer_base::{CpuMask, MAX_FLOW_COUNT, PacketId};
 
 impl Hop {

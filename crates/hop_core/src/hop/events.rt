@@ -1,14 +1,14 @@
 //! The events of a hop, each as a call of its own. [`Hop::step`] makes any of them.
 ghost use Rattle.std.specs.Prelude.{◌≡◌, ◌<◌, false, length};
 ghost use Rattle.steer_base.specs.Counters.{rounded_up};
-ghost use Rattle.hop_core.specs.Events.{MayArrive, MayDeliver, MayResize, MayWeigh};
-ghost use Rattle.hop_core.specs.Events.{close, deliver, enter, leave, pull, put, retire, take};
-ghost use Rattle.hop_core.specs.Events.{weigh};
-ghost use Rattle.hop_core.specs.Hop.{arrived, resized, with_bare, with_closed};
-ghost use Rattle.hop_core.specs.declared.event.HopAnswer.TheVariants as answer;
+ghost use Rattle.hop_model.specs.Events.{MayArrive, MayDeliver, MayResize, MayWeigh};
+ghost use Rattle.hop_model.specs.Events.{close, deliver, enter, leave, pull, put, retire, take};
+ghost use Rattle.hop_model.specs.Events.{weigh};
+ghost use Rattle.hop_model.specs.Hop.{arrived, resized, with_bare, with_closed};
+ghost use Rattle.hop_model.specs.declared.event.HopAnswer.TheVariants as answer;
 
-use crate::HopAnswer;
 use crate::hop::Hop;
+use hop_model::HopAnswer;
 use steer_base::{Chosen, CpuMask, Idle, PacketId, round_up};
 
 impl Hop {

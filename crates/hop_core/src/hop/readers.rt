@@ -1,11 +1,11 @@
 //! Reads of a hop's state.
 ghost use Rattle.std.specs.Prelude.{◌≡◌, ◌↔◌, ℕ, ◌-◌, ◌<◌, IsOk, length, slice_get, slice_index};
 ghost use Rattle.steer_base.specs.Choices.{class_of};
-ghost use Rattle.hop_core.specs.Emptied.{AreEmptied, emptied};
-ghost use Rattle.hop_core.specs.Hop.{accepted_at, choices_of, delivered_at, drops_at, head_at};
-ghost use Rattle.hop_core.specs.Hop.{inside_of};
-ghost use Rattle.hop_core.specs.Hop.{out_at, placed_of, pulled_at, retired_at, tail_at, taken_of};
-ghost use Rattle.hop_core.specs.Reads.{last_choice, to_deliver, to_put, to_weigh};
+ghost use Rattle.hop_model.specs.Emptied.{AreEmptied, emptied};
+ghost use Rattle.hop_model.specs.Hop.{accepted_at, choices_of, delivered_at, drops_at, head_at};
+ghost use Rattle.hop_model.specs.Hop.{inside_of};
+ghost use Rattle.hop_model.specs.Hop.{out_at, placed_of, pulled_at, retired_at, tail_at, taken_of};
+ghost use Rattle.hop_model.specs.Reads.{last_choice, to_deliver, to_put, to_weigh};
 
 use crate::hop::Hop;
 use steer_base::{Busy, Chosen, CpuMask, LaneDrop, PacketId};

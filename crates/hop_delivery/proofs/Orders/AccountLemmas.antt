@@ -8,7 +8,7 @@ use Rattle.steer_base.specs.Entries.{entry, of_class, current_lane, position}
 use Rattle.steer_base.specs.declared.choice.Chosen.{Chosen}
 use Rattle.steer_base.specs.declared.put.Put.{Put}
 use Rattle.dev_flow_table.specs.Walks.{since_resize}
-use Rattle.hop_core.specs.Hop.{chosen_at}
+use Rattle.hop_model.specs.Hop.{chosen_at}
 use Rattle.linearization.specs.Orders.{StepBy}
 use Rattle.hop_rule.specs.Boards.{accepted, retired, settings}
 use Rattle.hop_rule.specs.Emptied.{WasEmptied}

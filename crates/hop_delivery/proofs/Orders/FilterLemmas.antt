@@ -5,8 +5,8 @@ use Rattle.std.specs.Prelude.{slice_get, slice_index, filter, map}
 use Rattle.std.specs.List.{list_any, range_with_len}
 use Rattle.std.proofs.lemmas.Bool.{cases_Bool, cases_eq, cases_lt, true≢false}
 use Rattle.steer_base.specs.Orders.{IsPrefix}
-use Rattle.hop_core.specs.Pairs.{Pairwise}
-use Rattle.hop_core.proofs.Pairs.{prefix_from_pairs}
+use Rattle.hop_model.specs.Pairs.{Pairwise}
+use Rattle.hop_model.proofs.Pairs.{prefix_from_pairs}
 use Rattle.hop_rule.proofs.Lists.{some-is, none-some, get-inside}
 
 pub get-of : (xs : List ℕ) (i : ℕ) → i < length xs → slice_get xs i ≡ Some (slice_index xs i)

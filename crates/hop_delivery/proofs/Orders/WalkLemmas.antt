@@ -16,7 +16,7 @@ use Rattle.steer_base.specs.declared.choice.Entry.{Entry}
 use Rattle.steer_base.proofs.RuleLemmas.{by_entry-class, by_entry-online}
 use Rattle.dev_flow_table.specs.Walks.{IsRuled as IsRuledAt, IsWalk, since_resize}
 use Rattle.dev_flow_table.proofs.WalksLemmas.{since_is_last_change, walk_keeps_order}
-use Rattle.hop_core.specs.Hop.{nobody}
+use Rattle.hop_model.specs.Hop.{nobody}
 use Rattle.linearization.specs.Orders.{StepBy}
 use Rattle.hop_rule.specs.Boards.{IsLawful, accepted, retired}
 use Rattle.hop_rule.specs.Gates.{with_setting}

@@ -15,7 +15,7 @@ use Rattle.steer_base.specs.declared.command.Command.TheVariants as give
 use Rattle.history.specs.Lists.{list_at}
 use Rattle.history.specs.declared.history.History.{History}
 use Rattle.history.specs.declared.sent.Sent.{Sent}
-use Rattle.hop_core.specs.Hop.{nobody}
+use Rattle.hop_model.specs.Hop.{nobody}
 use Rattle.hop_rule.specs.Boards.{gate_steps}
 use Rattle.hop_rule.specs.Gates.{opened, own_settings}
 use Rattle.hop_rule.specs.Moments.{nth_step}

@@ -1,7 +1,7 @@
 -- The two boards of a run: their sizes and first settings are the plan's, and the lists that they
 -- leave are the history's.
 use Rattle.std.specs.Prelude.{◌≡◌, [], length}
-use Rattle.hop_core.specs.declared.shape.TheConstants.{MAX_HOP_ROOM}
+use Rattle.hop_model.specs.declared.shape.TheConstants.{MAX_HOP_ROOM}
 use Rattle.history.specs.Lists.{list_at}
 use Rattle.history.specs.declared.history.History.{History}
 use Rattle.hop_rule.specs.Gates.{own_settings}

@@ -34,7 +34,7 @@ use Rattle.history.specs.declared.history.History.{History}
 use Rattle.history.specs.declared.lane_list.LaneList.{LaneList}
 use Rattle.history.specs.declared.sent.Sent.{Sent}
 use Rattle.history.specs.declared.sock_write.SockWrite.{SockWrite}
-use Rattle.hop_core.specs.Hop.{chosen_at, nobody}
+use Rattle.hop_model.specs.Hop.{chosen_at, nobody}
 use Rattle.hop_rule.specs.Moments.{nth_step}
 use Rattle.hop_rule.proofs.Moments.{nth-first}
 use Rattle.hop_rule.specs.declared.step.BoardStep.{BoardStep}

@@ -15,7 +15,7 @@ use Rattle.history.specs.Finding.{is_in}
 use Rattle.history.specs.Lists.{arrivals_at, drop_ids, lane_at, list_at}
 use Rattle.history.specs.declared.history.History.{History}
 use Rattle.history.specs.declared.lane_list.LaneList.{LaneList}
-use Rattle.hop_core.specs.Hop.{nobody}
+use Rattle.hop_model.specs.Hop.{nobody}
 use Rattle.hop_rule.specs.Moments.{nth_step}
 use Rattle.hop_rule.specs.Owns.{PutMade}
 use Rattle.hop_rule.specs.Sizes.{puller}

@@ -28,7 +28,7 @@ use Rattle.history.specs.Lists.{accepted_lists, lane_at, list_at, packet_at}
 use Rattle.history.specs.Regular.{AreShipped}
 use Rattle.history.specs.declared.history.History.{History}
 use Rattle.history.specs.declared.lane_list.LaneList.{LaneList}
-use Rattle.hop_core.specs.Hop.{nobody}
+use Rattle.hop_model.specs.Hop.{nobody}
 use Rattle.hop_rule.specs.Sizes.{closer}
 use Rattle.hop_rule.specs.declared.sizes.BoardSizes.{BoardSizes}
 use Rattle.hop_rule.specs.declared.step.BoardStep.{BoardStep}
@@ -249,7 +249,7 @@ module _ (i : Input) (h : History) (rx : BoardSizes) (rx_own : ℕ → List Boar
       apart : (x : LaneLists) → put_count x < about.room
           → about.room ≤ Rattle.hop_rule.specs.declared.sizes.TheConstants.MAX_BOARD_ROOM
           → x.limit ≡ about.limit
-          → about.limit ≡ Rattle.hop_core.specs.declared.shape.TheConstants.MAX_HOP_ROOM
+          → about.limit ≡ Rattle.hop_model.specs.declared.shape.TheConstants.MAX_HOP_ROOM
           → length x.accepted - x.pulled ≢ x.limit
       apart x room most limit big e = omega arith
 

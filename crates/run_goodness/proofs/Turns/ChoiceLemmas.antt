@@ -14,7 +14,7 @@ use Rattle.steer_base.specs.declared.command.Command.{Command}
 use Rattle.dev_flow_table.specs.Walks.{since_resize}
 use Rattle.history.specs.Lists.{list_at}
 use Rattle.history.specs.declared.history.History.{History}
-use Rattle.hop_core.specs.Hop.{chosen_at, nobody}
+use Rattle.hop_model.specs.Hop.{chosen_at, nobody}
 use Rattle.hop_rule.specs.Boards.{gate_steps}
 use Rattle.hop_rule.specs.Gates.{opened, own_settings}
 use Rattle.hop_rule.specs.Moments.{nth_step}

@@ -21,7 +21,7 @@ use Rattle.xps_map.specs.Maps.{picked}
 use Rattle.history.specs.Lists.{list_at}
 use Rattle.history.specs.declared.history.History.{History}
 use Rattle.history.specs.declared.sent.Sent.{Sent}
-use Rattle.hop_core.specs.Hop.{chosen_at, nobody}
+use Rattle.hop_model.specs.Hop.{chosen_at, nobody}
 use Rattle.hop_rule.specs.Boards.{gate_steps}
 use Rattle.hop_rule.specs.Gates.{opened, own_settings}
 use Rattle.hop_rule.specs.Moments.{nth_step}

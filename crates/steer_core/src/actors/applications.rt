@@ -1,7 +1,7 @@
 //! The steps of an application, from its inbox to a transmit queue.
 ghost use Rattle.std.specs.Prelude.{◌≡◌, ◌<◌, slice_index_or};
 ghost use Rattle.history.specs.Lists.{arrival_of};
-ghost use Rattle.hop_core.specs.declared.event.HopEvent.TheVariants as event;
+ghost use Rattle.hop_model.specs.declared.event.HopEvent.TheVariants as event;
 ghost use Rattle.steer_core.specs.Weighings.{weigh_event};
 ghost use Rattle.steer_model.specs.Steps.Applications.{in_reply, next_in, nothing_sent, reply_to};
 ghost use Rattle.steer_model.specs.Steps.Applications.{send};
@@ -9,10 +9,11 @@ ghost use Rattle.steer_model.specs.Steps.Applications.{sending, tput, tweigh};
 ghost use Rattle.steer_model.specs.Steps.Outcomes.{by_tx};
 ghost use Rattle.steer_model.specs.Steps.CompoundSteps.{replying};
 
+use crate::actors::hops::last_of;
 use crate::actors::{Actors, Weighing};
 use history::Sent;
 use steer_base::{Answer, Cpu, CpuMask, Idle, PacketId, RxQueue};
-use steer_model::{last_of, told};
+use steer_model::told;
 
 // All transmit queues are online.
 const EVERYONE: CpuMask = CpuMask(0xffff_ffff);

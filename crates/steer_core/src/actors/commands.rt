@@ -7,11 +7,12 @@ ghost use Rattle.steer_model.specs.Steps.Commands.{affects, answer_to, by_gate, 
 ghost use Rattle.steer_model.specs.Steps.Commands.{listed};
 
 use crate::actors::Actors;
+use crate::actors::hops::gate_answer;
 use crate::actors::old_filters::count_old;
 use history::Commanded;
 use hotplug::{Online, affected};
 use steer_base::{Answer, Command, Refused};
-use steer_model::{gate_answer, is_done, refused_answer};
+use steer_model::{is_done, refused_answer};
 
 impl Actors {
     /// Lists a command with its answer. It changes nothing else if it is not done.

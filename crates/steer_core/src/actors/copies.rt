@@ -1,6 +1,6 @@
 //! The lists of the machine, copied for its history.
 ghost use Rattle.std.specs.Prelude.{◌≡◌, ◌<◌, ◌^◌, IfOk, length};
-ghost use Rattle.hop_core.specs.Hop.{accepted_at};
+ghost use Rattle.hop_model.specs.Hop.{accepted_at};
 ghost use Rattle.steer_core.specs.HistoryParts.{hop_part, machine_beside};
 ghost use Rattle.steer_model.specs.State.Machine.{history_of, lane_list as list_of_lane};
 ghost use Rattle.steer_model.specs.State.Machine.{history_lanes as lists_of_lanes};

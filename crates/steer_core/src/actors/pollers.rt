@@ -1,7 +1,7 @@
 //! The steps of a poller, from the ring of its queue to the backlog of a processor.
 ghost use Rattle.std.specs.Prelude.{◌≡◌, ◌<◌, length};
-ghost use Rattle.hop_core.specs.declared.event.HopEvent.TheVariants as event;
-ghost use Rattle.hop_core.specs.Hop.{next_of};
+ghost use Rattle.hop_model.specs.declared.event.HopEvent.TheVariants as event;
+ghost use Rattle.hop_model.specs.Hop.{next_of};
 ghost use Rattle.steer_core.specs.Weighings.{weigh_event};
 ghost use Rattle.steer_model.specs.State.Machine.{note_of};
 ghost use Rattle.steer_model.specs.Steps.Outcomes.{by_rx};
@@ -10,10 +10,11 @@ ghost use Rattle.steer_model.specs.Steps.Pollers.{poller_takes, poller_weighs};
 ghost use Rattle.steer_model.specs.Steps.Pollers.{weighing};
 ghost use Rattle.steer_model.specs.Steps.Pollers.{with_filter};
 
+use crate::actors::hops::last_of;
 use crate::actors::{Actors, Weighing};
 use accel_filter::FilterTable;
 use steer_base::{Answer, Filter, Idle, PacketId};
-use steer_model::{Note, desired_cpu, filter_for, last_of, position_of, socket_seen, told};
+use steer_model::{Note, desired_cpu, filter_for, position_of, socket_seen, told};
 
 impl Actors {
     /// Takes the first packet of the ring in hand. The hand of a poller that asks for a filter

@@ -1,6 +1,6 @@
 //! The steps of a processor, from its backlog to the inboxes.
 ghost use Rattle.std.specs.Prelude.{◌≡◌, ◌<◌};
-ghost use Rattle.hop_core.specs.declared.event.HopEvent.TheVariants as event;
+ghost use Rattle.hop_model.specs.declared.event.HopEvent.TheVariants as event;
 ghost use Rattle.steer_model.specs.Steps.Applications.{cpu_delivers, in_lane};
 ghost use Rattle.steer_model.specs.Steps.Outcomes.{by_rx};
 ghost use Rattle.steer_model.specs.State.Setup.{app_for};

@@ -1,6 +1,6 @@
 //! The steps of a transmit queue, from its replies to the port.
 ghost use Rattle.std.specs.Prelude.{◌≡◌, ◌<◌};
-ghost use Rattle.hop_core.specs.declared.event.HopEvent.TheVariants as event;
+ghost use Rattle.hop_model.specs.declared.event.HopEvent.TheVariants as event;
 ghost use Rattle.steer_model.specs.Steps.Outcomes.{by_tx};
 
 use crate::actors::Actors;

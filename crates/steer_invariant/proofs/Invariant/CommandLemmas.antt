@@ -5,9 +5,9 @@ use Rattle.steer_base.specs.Counters.{rounded_up}
 use Rattle.steer_base.specs.declared.command.Command.{Command}
 use Rattle.steer_base.specs.declared.command.Command.TheVariants as give
 use Rattle.steer_base.specs.declared.filter.Filter.{Filter}
-use Rattle.hop_core.specs.declared.event.HopEvent.TheVariants as event
-use Rattle.hop_core.specs.Events.{happens}
-use Rattle.hop_core.specs.Hop.{HopState}
+use Rattle.hop_model.specs.declared.event.HopEvent.TheVariants as event
+use Rattle.hop_model.specs.Events.{happens}
+use Rattle.hop_model.specs.Hop.{HopState}
 use Rattle.sock_flow_table.specs.Sockets as sockets
 use Rattle.steer_model.specs.Steps.Commands.{answer_to, is_done, kept_filter, set_by, with_settings}
 use Rattle.steer_model.specs.State.Machine.{Machine}

@@ -1,7 +1,7 @@
 -- A machine that is held may ask its hops for the events of its steps, and what an expiry reads is
 -- there.
 use Rattle.std.proofs.Common.{ℕ, ◌+◌, ◌<◌, ◌≡◌, List, length, ap, ◌∙◌, arith}
-use Rattle.hop_core.specs.declared.event.HopEvent.TheVariants as event
+use Rattle.hop_model.specs.declared.event.HopEvent.TheVariants as event
 use Rattle.hop_core.proofs.Sizes.{Sizes-happens}
 use Rattle.steer_model.specs.State.Machine.{Machine}
 use Rattle.steer_invariant.specs.EventPremises.{AsksRx, AsksTx}

@@ -7,12 +7,12 @@ use Rattle.steer_base.specs.declared.choice.Choice.{Choice}
 use Rattle.steer_base.specs.declared.command.Answer.{Answer}
 use Rattle.steer_base.specs.declared.command.Command.{Command}
 use Rattle.steer_base.specs.declared.filter.Filter.{Filter}
-use Rattle.hop_core.specs.declared.event.HopEvent.{HopEvent}
-use Rattle.hop_core.specs.declared.event.HopEvent.TheVariants as event
-use Rattle.hop_core.specs.Events.{happens}
-use Rattle.hop_core.specs.Hop.{HopState, next_of, placed_of, taken_of}
+use Rattle.hop_model.specs.declared.event.HopEvent.{HopEvent}
+use Rattle.hop_model.specs.declared.event.HopEvent.TheVariants as event
+use Rattle.hop_model.specs.Events.{happens}
+use Rattle.hop_model.specs.Hop.{HopState, next_of, placed_of, taken_of}
 use Rattle.hop_core.specs.Leaves.{Field, changes}
-use Rattle.hop_core.specs.Reads.{to_weigh}
+use Rattle.hop_model.specs.Reads.{to_weigh}
 use Rattle.hop_core.proofs.Leaves.{each_leaves}
 use Rattle.history.specs.Regular.{has_text}
 use Rattle.history.specs.declared.arrival.Arrival.{Arrival}

@@ -15,7 +15,7 @@ use Rattle.steer_base.specs.declared.choice.Chosen.{Chosen}
 use Rattle.steer_base.specs.declared.filter.Filter.{Filter}
 use Rattle.steer_base.specs.declared.packet.Packet.{Packet}
 use Rattle.steer_base.proofs.MasksLemmas.{has-first_cpus}
-use Rattle.hop_core.specs.Hop.{HopState, choices_of, out_at, placed_of}
+use Rattle.hop_model.specs.Hop.{HopState, choices_of, out_at, placed_of}
 use Rattle.hop_core.proofs.Drops.{fresh_is_ample}
 use Rattle.hop_core.proofs.New.{Sound-fresh, at_new}
 use Rattle.hop_core.proofs.NothingLost.{fresh_loses_nothing}
@@ -36,7 +36,7 @@ use Rattle.steer_model.specs.State.Start.{fresh_rx, fresh_tx, new_machine, initi
 use Rattle.steer_model.specs.State.Start.{setup_of}
 use Rattle.steer_model.specs.declared.note.Note.{Note}
 use Rattle.steer_model.specs.declared.note.Note.TheVariants as note
-use Rattle.steer_model.proofs.Origins.TableWriteLemmas.{no-filters}
+use Rattle.step_laws.proofs.Origins.TableWriteLemmas.{no-filters}
 use Rattle.steer_invariant.specs.Invariant.{Invariant}
 use Rattle.steer_invariant.specs.InvariantLaws.{MayStart}
 use Rattle.steer_invariant.specs.StepInvariant.{StepInvariant}

@@ -19,7 +19,7 @@ use Rattle.steer_base.specs.declared.choice.Chosen.{Chosen}
 use Rattle.steer_base.specs.declared.command.Command.{Command}
 use Rattle.steer_base.specs.declared.command.Command.TheVariants as give
 use Rattle.steer_base.specs.declared.filter.Filter.{Filter}
-use Rattle.hop_core.specs.Hop.{choices_of, chosen_at, nobody}
+use Rattle.hop_model.specs.Hop.{choices_of, chosen_at, nobody}
 use Rattle.history.proofs.SamePlaces.{map_some}
 use Rattle.steer_model.specs.Steps.Commands.{kept_filter, may_go, set_by}
 use Rattle.steer_model.specs.State.Machine.{Machine, last_chosen, note_of}

@@ -4,9 +4,9 @@ use Rattle.std.specs.Prelude.{nat_lt}
 use Rattle.std.proofs.lemmas.Bool.{ltb-true}
 use Rattle.steer_base.specs.declared.step.Step.{Step}
 use Rattle.steer_base.specs.declared.step.Step.TheVariants as act
-use Rattle.hop_core.specs.Events.{happens}
-use Rattle.hop_core.specs.Hop.{inside_of, placed_of, taken_of}
-use Rattle.hop_core.specs.Reads.{to_weigh}
+use Rattle.hop_model.specs.Events.{happens}
+use Rattle.hop_model.specs.Hop.{inside_of, placed_of, taken_of}
+use Rattle.hop_model.specs.Reads.{to_weigh}
 use Rattle.steer_model.specs.Steps.Applications.{next_in, record_by, send_by}
 use Rattle.steer_model.specs.Steps.Commands.{answer_to, is_done, set_by}
 use Rattle.steer_model.specs.State.Machine.{Machine, last_chosen, note_of}

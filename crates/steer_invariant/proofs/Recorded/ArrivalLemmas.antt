@@ -9,7 +9,7 @@ use Rattle.steer_base.specs.Arrivals.{IsRoute}
 use Rattle.steer_base.specs.declared.command.Answer.TheVariants as says
 use Rattle.steer_base.specs.declared.idle.Idle.TheVariants as idle
 use Rattle.steer_base.specs.declared.packet.Packet.{Packet}
-use Rattle.hop_core.specs.Hop.{out_at}
+use Rattle.hop_model.specs.Hop.{out_at}
 use Rattle.rss_table.specs.Redirection.{queue_of}
 use Rattle.history.specs.Finding.{is_in}
 use Rattle.history.specs.Lists.{list_at, packet_at}

@@ -12,11 +12,11 @@ use Rattle.steer_base.specs.declared.command.Command.{Command}
 use Rattle.steer_base.specs.declared.command.Command.TheVariants as give
 use Rattle.steer_base.specs.declared.command.Refused.{Refused}
 use Rattle.steer_base.specs.declared.command.Refused.TheVariants as refused
-use Rattle.hop_core.specs.declared.event.HopEvent.{HopEvent}
-use Rattle.hop_core.specs.declared.event.HopEvent.TheVariants as event
-use Rattle.hop_core.specs.Emptied.{emptied_of}
-use Rattle.hop_core.specs.Events.{run}
-use Rattle.hop_core.specs.Hop.{HopState}
+use Rattle.hop_model.specs.declared.event.HopEvent.{HopEvent}
+use Rattle.hop_model.specs.declared.event.HopEvent.TheVariants as event
+use Rattle.hop_model.specs.Emptied.{emptied_of}
+use Rattle.hop_model.specs.Events.{run}
+use Rattle.hop_model.specs.Hop.{HopState}
 use Rattle.history.specs.Regular.{has_text}
 use Rattle.steer_model.specs.Steps.Commands.{affects, answer_to, by_gate, gate_answer, given}
 use Rattle.steer_model.specs.Steps.Commands.{is_done}

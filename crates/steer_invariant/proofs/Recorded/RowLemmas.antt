@@ -15,16 +15,16 @@ use Rattle.steer_base.specs.declared.choice.Chosen.{Chosen}
 use Rattle.steer_base.specs.declared.command.Answer.TheVariants as says
 use Rattle.steer_base.specs.declared.idle.Idle.TheVariants as idle
 use Rattle.steer_base.proofs.RuleLemmas.{by_entry-class}
-use Rattle.hop_core.specs.declared.event.HopAnswer.{HopAnswer}
-use Rattle.hop_core.specs.declared.event.HopEvent.{HopEvent}
-use Rattle.hop_core.specs.declared.event.HopEvent.TheVariants as event
-use Rattle.hop_core.specs.Events.{happens, run}
-use Rattle.hop_core.specs.Hop.{HopState, choice_of, choices_of, chose, deliver_at, delivered_at}
-use Rattle.hop_core.specs.Hop.{inside_of, next_of, next_out, placed_of, pulled_at, taken_of}
-use Rattle.hop_core.specs.Hop.{arrivals_of, with_bare}
+use Rattle.hop_model.specs.declared.event.HopAnswer.{HopAnswer}
+use Rattle.hop_model.specs.declared.event.HopEvent.{HopEvent}
+use Rattle.hop_model.specs.declared.event.HopEvent.TheVariants as event
+use Rattle.hop_model.specs.Events.{happens, run}
+use Rattle.hop_model.specs.Hop.{HopState, choice_of, choices_of, chose, deliver_at, delivered_at}
+use Rattle.hop_model.specs.Hop.{inside_of, next_of, next_out, placed_of, pulled_at, taken_of}
+use Rattle.hop_model.specs.Hop.{arrivals_of, with_bare}
 use Rattle.hop_core.specs.Leaves.{Field, Same, changes}
 use Rattle.hop_core.specs.Leaves as field
-use Rattle.hop_core.specs.Reads.{to_weigh}
+use Rattle.hop_model.specs.Reads.{to_weigh}
 use Rattle.hop_core.proofs.Cases.{by_cases}
 use Rattle.hop_core.proofs.Leaves.{each_leaves}
 use Rattle.history.specs.Lists.{app_at, arrival_of, packet_at}

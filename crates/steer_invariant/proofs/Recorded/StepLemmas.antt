@@ -3,7 +3,7 @@
 use Rattle.std.proofs.Common.{refl}
 use Rattle.steer_base.specs.declared.step.Step.{Step}
 use Rattle.steer_base.specs.declared.step.Step.TheVariants as act
-use Rattle.hop_core.specs.declared.event.HopEvent.TheVariants as event
+use Rattle.hop_model.specs.declared.event.HopEvent.TheVariants as event
 use Rattle.steer_model.specs.State.Machine.{Machine}
 use Rattle.steer_model.specs.Steps.SingleSteps.{simple}
 use Rattle.steer_invariant.specs.StepInvariant.{StepInvariant}

@@ -8,10 +8,10 @@ use Rattle.std.proofs.lemmas.List.{get_or_append_left, length_push, map_push}
 use Rattle.std.proofs.lemmas.List.Elements.{filter-append}
 use Rattle.std.proofs.lemmas.List.FromFn.{map-range_with_len_more}
 use Rattle.steer_base.specs.declared.packet.Packet.{Packet}
-use Rattle.hop_core.specs.declared.event.HopEvent.{HopEvent}
-use Rattle.hop_core.specs.declared.event.HopEvent.TheVariants as event
-use Rattle.hop_core.specs.Events.{MayAsk, happens}
-use Rattle.hop_core.specs.Hop.{HopState, arrivals_of}
+use Rattle.hop_model.specs.declared.event.HopEvent.{HopEvent}
+use Rattle.hop_model.specs.declared.event.HopEvent.TheVariants as event
+use Rattle.hop_model.specs.Events.{MayAsk, happens}
+use Rattle.hop_model.specs.Hop.{HopState, arrivals_of}
 use Rattle.hop_core.proofs.Lists.{Changed, Changed-set}
 use Rattle.history.specs.Finding.{is_in}
 use Rattle.history.specs.Lists.{arrival_of, arrivals_at, list_at, no_arrival}

@@ -11,9 +11,9 @@ use Rattle.steer_base.specs.declared.command.Answer.{Answer}
 use Rattle.steer_base.specs.declared.command.Command.{Command}
 use Rattle.steer_base.specs.declared.command.Command.TheVariants as give
 use Rattle.steer_base.specs.declared.cpu_mask.CpuMask.{CpuMask}
-use Rattle.hop_core.specs.Hop.{HopState, choices_of, chosen_at}
+use Rattle.hop_model.specs.Hop.{HopState, choices_of, chosen_at}
 use Rattle.hop_core.specs.Settled.{SettledIn}
-use Rattle.hop_core.specs.Sound.{Sound}
+use Rattle.hop_model.specs.Sound.{Sound}
 use Rattle.hop_core.proofs.Settled.{reset_settles}
 use Rattle.xps_map.specs.Maps.{Maps}
 use Rattle.steer_model.specs.Steps.Commands.{affects, answer_to, is_done, listed, set_by}

@@ -7,14 +7,14 @@ use Rattle.std.proofs.lemmas.List.{get_or-set_other}
 use Rattle.steer_base.specs.Choices.{class_of}
 use Rattle.steer_base.specs.Counters.{rounded_up}
 use Rattle.steer_base.specs.declared.command.Command.TheVariants as give
-use Rattle.hop_core.specs.declared.event.HopEvent.{HopEvent}
-use Rattle.hop_core.specs.declared.event.HopEvent.TheVariants as event
-use Rattle.hop_core.specs.Events.{AllMayAsk, IsEmptied, MayAsk, happens, run}
-use Rattle.hop_core.specs.Hop.{HopState, arrivals_of, out_at}
+use Rattle.hop_model.specs.declared.event.HopEvent.{HopEvent}
+use Rattle.hop_model.specs.declared.event.HopEvent.TheVariants as event
+use Rattle.hop_model.specs.Events.{AllMayAsk, IsEmptied, MayAsk, happens, run}
+use Rattle.hop_model.specs.Hop.{HopState, arrivals_of, out_at}
 use Rattle.hop_core.specs.Leaves.{Field}
 use Rattle.hop_core.specs.NothingLost.{NothingLost}
 use Rattle.hop_core.specs.Settled.{SettledIn}
-use Rattle.hop_core.specs.Sound.{Sound}
+use Rattle.hop_model.specs.Sound.{Sound}
 use Rattle.hop_core.proofs.AllSteps.{Sound-happens}
 use Rattle.hop_core.proofs.Leaves.{each_leaves}
 use Rattle.hop_core.proofs.NothingLost.{each_loses_nothing}

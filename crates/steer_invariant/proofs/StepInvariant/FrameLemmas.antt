@@ -2,9 +2,9 @@
 use Rattle.std.proofs.Common.{ℕ, ◌≡◌, false, List, [], length, ap, ◌∙◌, sym, subst}
 use Rattle.std.specs.Prelude.{slice_index, slice_index_or}
 use Rattle.steer_base.specs.declared.packet.Packet.{Packet}
-use Rattle.hop_core.specs.declared.event.HopEvent.{HopEvent}
-use Rattle.hop_core.specs.Events.{MayAsk, happens}
-use Rattle.hop_core.specs.Hop.{Fixed, HopState, arrivals_of, out_at}
+use Rattle.hop_model.specs.declared.event.HopEvent.{HopEvent}
+use Rattle.hop_model.specs.Events.{MayAsk, happens}
+use Rattle.hop_model.specs.Hop.{Fixed, HopState, arrivals_of, out_at}
 use Rattle.hop_core.specs.Leaves.{Field, changes}
 use Rattle.hop_core.specs.Settled.{IsBySettings}
 use Rattle.hop_core.specs.Sizes.{SameSizes}

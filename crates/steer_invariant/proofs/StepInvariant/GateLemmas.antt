@@ -10,10 +10,10 @@ use Rattle.steer_base.specs.declared.command.Busy.{Busy}
 use Rattle.steer_base.specs.declared.command.Busy.TheVariants as busy
 use Rattle.steer_base.specs.declared.command.Refused.{Refused}
 use Rattle.steer_base.specs.declared.command.Refused.TheVariants as refused
-use Rattle.hop_core.specs.Emptied.{emptied_of}
-use Rattle.hop_core.specs.Events.{IsEmptied}
-use Rattle.hop_core.specs.Hop.{HopState, accepted_at, choices_of, placed_of, retired_at}
-use Rattle.hop_core.specs.Sound.{Sound}
+use Rattle.hop_model.specs.Emptied.{emptied_of}
+use Rattle.hop_model.specs.Events.{IsEmptied}
+use Rattle.hop_model.specs.Hop.{HopState, accepted_at, choices_of, placed_of, retired_at}
+use Rattle.hop_model.specs.Sound.{Sound}
 use Rattle.hop_core.proofs.Empties.{emptied_is_exact}
 use Rattle.hop_core.proofs.GateSteps.{nobody_weighs}
 use Rattle.steer_model.specs.Steps.Commands.{gate_answer, gated, is_done, refused_or}

@@ -18,7 +18,7 @@ use Rattle.steer_base.specs.declared.command.User.{User}
 use Rattle.steer_base.specs.declared.command.User.TheVariants as user
 use Rattle.steer_base.specs.declared.cpu_mask.CpuMask.{CpuMask}
 use Rattle.steer_base.proofs.MasksLemmas.{has-with_cpu, has-without_cpu}
-use Rattle.hop_core.specs.Hop.{accepted_at, retired_at}
+use Rattle.hop_model.specs.Hop.{accepted_at, retired_at}
 use Rattle.hop_core.proofs.Settled.{reset_settles}
 use Rattle.steer_model.specs.Steps.Commands.{affects, answer_to, by_gate, is_done, set_by}
 use Rattle.steer_model.specs.State.Machine.{Machine}

@@ -9,16 +9,16 @@ use Rattle.std.proofs.lemmas.Nat.{mod_below}
 use Rattle.steer_base.specs.Apps.{app_of}
 use Rattle.steer_base.specs.Orders.{IsPrefix}
 use Rattle.steer_base.specs.declared.filter.Filter.{Filter}
-use Rattle.hop_core.specs.declared.event.HopEvent.{HopEvent}
-use Rattle.hop_core.specs.declared.event.HopEvent.TheVariants as event
-use Rattle.hop_core.specs.Events.{MayAsk, happens}
-use Rattle.hop_core.specs.Hop.{HopState, accepted_at, arrivals_of, choices_of, deliver_at}
-use Rattle.hop_core.specs.Hop.{delivered_at, next_out, out_at, retire_at, retired_at, taken_of}
-use Rattle.hop_core.specs.Hop.{took, with_bare}
+use Rattle.hop_model.specs.declared.event.HopEvent.{HopEvent}
+use Rattle.hop_model.specs.declared.event.HopEvent.TheVariants as event
+use Rattle.hop_model.specs.Events.{MayAsk, happens}
+use Rattle.hop_model.specs.Hop.{HopState, accepted_at, arrivals_of, choices_of, deliver_at}
+use Rattle.hop_model.specs.Hop.{delivered_at, next_out, out_at, retire_at, retired_at, taken_of}
+use Rattle.hop_model.specs.Hop.{took, with_bare}
 use Rattle.hop_core.specs.Leaves.{Field, changes}
-use Rattle.hop_core.specs.Reads.{to_weigh}
+use Rattle.hop_model.specs.Reads.{to_weigh}
 use Rattle.hop_core.specs.Settled.{IsBySettings}
-use Rattle.hop_core.specs.Sound.{Sound}
+use Rattle.hop_model.specs.Sound.{Sound}
 use Rattle.hop_core.proofs.Cases.{by_cases}
 use Rattle.hop_core.proofs.Lists.{Changed, Changed-set}
 use Rattle.history.specs.Lists.{list_at}

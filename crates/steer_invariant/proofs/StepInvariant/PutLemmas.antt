@@ -9,11 +9,11 @@ use Rattle.steer_base.specs.declared.choice.Choice.{Choice}
 use Rattle.steer_base.specs.declared.choice.Chosen.{Chosen}
 use Rattle.steer_base.specs.declared.filter.Filter.{Filter}
 use Rattle.steer_base.specs.declared.put.DropCause.{DropCause}
-use Rattle.hop_core.specs.declared.event.HopEvent.TheVariants as event
-use Rattle.hop_core.specs.Events.{IsEmptied, Outcome, happens}
-use Rattle.hop_core.specs.Hop.{HopState, accepted_at, choices_of, in_hand, lane_of, placed_of}
-use Rattle.hop_core.specs.Hop.{taken_of}
-use Rattle.hop_core.specs.Sound.{Sound}
+use Rattle.hop_model.specs.declared.event.HopEvent.TheVariants as event
+use Rattle.hop_model.specs.Events.{IsEmptied, Outcome, happens}
+use Rattle.hop_model.specs.Hop.{HopState, accepted_at, choices_of, in_hand, lane_of, placed_of}
+use Rattle.hop_model.specs.Hop.{taken_of}
+use Rattle.hop_model.specs.Sound.{Sound}
 use Rattle.hop_core.proofs.Cases.{by_cases, by_outcomes}
 use Rattle.hop_core.proofs.Lists.{Changed-set}
 use Rattle.hop_core.proofs.PutSteps.{put_as}

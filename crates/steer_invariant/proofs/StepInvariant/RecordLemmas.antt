@@ -4,9 +4,9 @@ use Rattle.std.proofs.Common.{arith}
 use Rattle.std.specs.Prelude.{slice_set}
 use Rattle.std.proofs.Math.ListN.{length-set}
 use Rattle.steer_base.specs.HashTables.{place_in_rows, with_row}
-use Rattle.hop_core.specs.declared.event.HopEvent.TheVariants as event
-use Rattle.hop_core.specs.Events.{happens}
-use Rattle.hop_core.specs.Hop.{HopState}
+use Rattle.hop_model.specs.declared.event.HopEvent.TheVariants as event
+use Rattle.hop_model.specs.Events.{happens}
+use Rattle.hop_model.specs.Hop.{HopState}
 use Rattle.history.specs.declared.sock_write.SockWrite.{SockWrite}
 use Rattle.steer_model.specs.State.Machine.{Machine}
 use Rattle.steer_invariant.specs.StepInvariant.{StepInvariant}

@@ -10,12 +10,12 @@ use Rattle.std.proofs.lemmas.Nat.Bits.{bit_at_ones}
 use Rattle.steer_base.specs.Orders.{IsPrefix}
 use Rattle.steer_base.specs.Sets.{has}
 use Rattle.steer_base.specs.declared.packet.Packet.{Packet}
-use Rattle.hop_core.specs.declared.event.HopEvent.{HopEvent}
-use Rattle.hop_core.specs.declared.event.HopEvent.TheVariants as event
-use Rattle.hop_core.specs.Events.{MayAsk, happens}
-use Rattle.hop_core.specs.Hop.{HopState, accepted_at, arrivals_of, arrived, out_at, placed_of}
-use Rattle.hop_core.specs.Hop.{taken_of, took}
-use Rattle.hop_core.specs.Sound.{Sound}
+use Rattle.hop_model.specs.declared.event.HopEvent.{HopEvent}
+use Rattle.hop_model.specs.declared.event.HopEvent.TheVariants as event
+use Rattle.hop_model.specs.Events.{MayAsk, happens}
+use Rattle.hop_model.specs.Hop.{HopState, accepted_at, arrivals_of, arrived, out_at, placed_of}
+use Rattle.hop_model.specs.Hop.{taken_of, took}
+use Rattle.hop_model.specs.Sound.{Sound}
 use Rattle.hop_core.specs.Leaves.{Field, changes}
 use Rattle.hop_core.proofs.Fits.{fits_room, put_below}
 use Rattle.hop_core.proofs.Lists.{Changed, Changed-set, length-push}

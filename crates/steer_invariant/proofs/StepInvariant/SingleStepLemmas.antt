@@ -10,11 +10,11 @@ use Rattle.steer_base.specs.declared.command.Command.TheVariants as give
 use Rattle.steer_base.specs.declared.idle.Idle.TheVariants as idle
 use Rattle.steer_base.specs.declared.step.Step.{Step}
 use Rattle.steer_base.specs.declared.step.Step.TheVariants as act
-use Rattle.hop_core.specs.declared.event.HopEvent.{HopEvent}
-use Rattle.hop_core.specs.declared.event.HopEvent.TheVariants as event
-use Rattle.hop_core.specs.Events.{happens}
-use Rattle.hop_core.specs.Hop.{HopState, choices_of, inside_of, next_of, placed_of, taken_of}
-use Rattle.hop_core.specs.Reads.{to_weigh}
+use Rattle.hop_model.specs.declared.event.HopEvent.{HopEvent}
+use Rattle.hop_model.specs.declared.event.HopEvent.TheVariants as event
+use Rattle.hop_model.specs.Events.{happens}
+use Rattle.hop_model.specs.Hop.{HopState, choices_of, inside_of, next_of, placed_of, taken_of}
+use Rattle.hop_model.specs.Reads.{to_weigh}
 use Rattle.history.specs.Lists.{list_at}
 use Rattle.history.specs.declared.arrival.Arrival.{Arrival}
 use Rattle.steer_model.specs.Steps.Applications.{in_lane, in_reply, next_in, record_by, reply_to}

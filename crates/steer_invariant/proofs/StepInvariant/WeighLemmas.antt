@@ -12,11 +12,11 @@ use Rattle.steer_base.specs.declared.choice.Chosen.{Chosen}
 use Rattle.steer_base.specs.declared.choice.Entry.{Entry}
 use Rattle.steer_base.specs.declared.cpu_mask.CpuMask.{CpuMask}
 use Rattle.steer_base.proofs.RuleLemmas.{by_entry-online}
-use Rattle.hop_core.specs.declared.event.HopEvent.{HopEvent}
-use Rattle.hop_core.specs.Hop.{HopState, accepted_at, choice_of, choices_of, chose, head_at}
-use Rattle.hop_core.specs.Hop.{in_hand, next_of, nobody, placed_of, recent, taken_of}
-use Rattle.hop_core.specs.Events.{IsClassBelow, MayAsk, happens}
-use Rattle.hop_core.specs.Sound.{Sound}
+use Rattle.hop_model.specs.declared.event.HopEvent.{HopEvent}
+use Rattle.hop_model.specs.Hop.{HopState, accepted_at, choice_of, choices_of, chose, head_at}
+use Rattle.hop_model.specs.Hop.{in_hand, next_of, nobody, placed_of, recent, taken_of}
+use Rattle.hop_model.specs.Events.{IsClassBelow, MayAsk, happens}
+use Rattle.hop_model.specs.Sound.{Sound}
 use Rattle.hop_core.proofs.Cases.{by_cases}
 use Rattle.hop_core.proofs.Lists.{Changed-set, chosen-push_last}
 use Rattle.steer_model.specs.State.Machine.{Machine, note_of}

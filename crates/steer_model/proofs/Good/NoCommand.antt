@@ -4,7 +4,7 @@ use Rattle.std.proofs.Common.{subst, arith, suc, zero, take, drop}
 use Rattle.history.specs.Lists.{list_at}
 use Rattle.history.specs.declared.commanded.Commanded.{Commanded}
 use Rattle.history.specs.declared.history.History.{History}
-use Rattle.hop_core.specs.Hop.{chosen_at}
+use Rattle.hop_model.specs.Hop.{chosen_at}
 use Rattle.steer_base.specs.Choices.{class_of}
 use Rattle.steer_model.specs.Good.GoodHistory.{Good, Clause, never}
 use Rattle.steer_model.specs.Good.Choices.{ChoicesAreByRule, IsByRule, WantsAreWritten}

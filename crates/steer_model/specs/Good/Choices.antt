@@ -7,7 +7,7 @@ use Rattle.steer_base.specs.Counters.{distance}
 use Rattle.steer_base.specs.Entries.{current_lane, entry, of_class}
 use Rattle.steer_base.specs.Sets.{has}
 use Rattle.steer_base.specs.declared.choice.Chosen.{Chosen}
-use Rattle.hop_core.specs.Hop.{chosen_at}
+use Rattle.hop_model.specs.Hop.{chosen_at}
 use Rattle.history.specs.Lists.{arrivals_at, lane_at, list_at}
 use Rattle.history.specs.declared.history.History.{History}
 use Rattle.history.specs.declared.lane_list.LaneList.{LaneList}

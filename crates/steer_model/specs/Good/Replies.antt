@@ -8,7 +8,7 @@ use Rattle.steer_base.specs.Entries.{entry}
 use Rattle.steer_base.specs.Orders.{Apart, InOrder, IsPrefix}
 use Rattle.steer_base.specs.Sets.{has}
 use Rattle.steer_base.specs.declared.choice.Chosen.{Chosen}
-use Rattle.hop_core.specs.Hop.{chosen_at}
+use Rattle.hop_model.specs.Hop.{chosen_at}
 use Rattle.xps_map.specs.Maps.{picked}
 use Rattle.history.specs.Finding.{is_among, is_in, Once}
 use Rattle.history.specs.Lists.{accepted_lists, arrival_of, arrivals_at, lane_at, list_at}

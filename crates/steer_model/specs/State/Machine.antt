@@ -3,9 +3,9 @@ use Rattle.std.specs.Prelude.{ℕ, List, Option, length, map, slice_index_or, un
 use Rattle.std.specs.List.{range_with_len}
 use Rattle.steer_base.specs.declared.choice.Chosen.{Chosen}
 use Rattle.steer_base.specs.declared.filter.Filter.{Filter}
-use Rattle.hop_core.specs.Hop.{Bare, HopState, accepted_at, delivered_at, drops_at, nobody}
-use Rattle.hop_core.specs.Hop.{out_at, pulled_at, retired_at}
-use Rattle.hop_core.specs.Reads.{last_choice}
+use Rattle.hop_model.specs.Hop.{Bare, HopState, accepted_at, delivered_at, drops_at, nobody}
+use Rattle.hop_model.specs.Hop.{out_at, pulled_at, retired_at}
+use Rattle.hop_model.specs.Reads.{last_choice}
 use Rattle.history.specs.declared.arrival.Arrival.{Arrival}
 use Rattle.history.specs.declared.commanded.Commanded.{Commanded}
 use Rattle.history.specs.declared.history.History.{History}

@@ -5,9 +5,9 @@ use Rattle.steer_base.specs.Counters.{rounded_up}
 use Rattle.steer_base.specs.Sets.{first_cpus}
 use Rattle.steer_base.specs.declared.packet.Packet.{Packet}
 use Rattle.steer_base.specs.declared.step.Step.{Step}
-use Rattle.hop_core.specs.declared.shape.TheConstants.{MAX_HOP_ROOM}
-use Rattle.hop_core.specs.Hop.{HopState}
-use Rattle.hop_core.specs.Shape.{fresh_hop}
+use Rattle.hop_model.specs.declared.shape.TheConstants.{MAX_HOP_ROOM}
+use Rattle.hop_model.specs.Hop.{HopState}
+use Rattle.hop_model.specs.Shape.{fresh_hop}
 use Rattle.sock_flow_table.specs.Sockets as sockets
 use Rattle.accel_filter.specs.Table as filters
 use Rattle.history.specs.declared.history.History.{History}

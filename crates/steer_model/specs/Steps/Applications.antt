@@ -6,11 +6,11 @@ use Rattle.std.specs.Prelude.{if◌then◌else◌}
 use Rattle.steer_base.specs.declared.command.Answer.TheVariants as says
 use Rattle.steer_base.specs.declared.cpu_mask.CpuMask.{CpuMask}
 use Rattle.steer_base.specs.declared.idle.Idle.TheVariants as idle
-use Rattle.hop_core.specs.declared.event.HopEvent.{HopEvent}
-use Rattle.hop_core.specs.declared.event.HopEvent.TheVariants as event
-use Rattle.hop_core.specs.Hop.{HopState, choices_of, out_at, placed_of, taken_of}
-use Rattle.hop_core.specs.Events.{run}
-use Rattle.hop_core.specs.Reads.{to_deliver}
+use Rattle.hop_model.specs.declared.event.HopEvent.{HopEvent}
+use Rattle.hop_model.specs.declared.event.HopEvent.TheVariants as event
+use Rattle.hop_model.specs.Hop.{HopState, choices_of, out_at, placed_of, taken_of}
+use Rattle.hop_model.specs.Events.{run}
+use Rattle.hop_model.specs.Reads.{to_deliver}
 use Rattle.sock_flow_table.specs.Sockets.{noted as with_note}
 use Rattle.xps_map.specs.Maps.{picked}
 use Rattle.history.specs.Lists.{arrival_of, list_at}

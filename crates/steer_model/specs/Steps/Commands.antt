@@ -14,10 +14,10 @@ use Rattle.steer_base.specs.declared.command.Refused.{Refused}
 use Rattle.steer_base.specs.declared.command.Refused.TheVariants as refused
 use Rattle.steer_base.specs.declared.filter.Filter.{Filter}
 use Rattle.steer_base.specs.declared.idle.Idle.TheVariants as idle
-use Rattle.hop_core.specs.declared.event.HopEvent.TheVariants as event
-use Rattle.hop_core.specs.Hop.{HopState, head_at}
-use Rattle.hop_core.specs.Events.{run}
-use Rattle.hop_core.specs.Emptied.{emptied_of}
+use Rattle.hop_model.specs.declared.event.HopEvent.TheVariants as event
+use Rattle.hop_model.specs.Hop.{HopState, head_at}
+use Rattle.hop_model.specs.Events.{run}
+use Rattle.hop_model.specs.Emptied.{emptied_of}
 use Rattle.sock_flow_table.specs.Sockets as sockets
 use Rattle.steer_model.specs.State.Machine.{Machine}
 use Rattle.steer_model.specs.Steps.Outcomes.{StepOutcome}

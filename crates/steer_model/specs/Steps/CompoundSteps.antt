@@ -7,7 +7,7 @@ use Rattle.steer_base.specs.declared.command.Answer.TheVariants as says
 use Rattle.steer_base.specs.declared.idle.Idle.TheVariants as idle
 use Rattle.steer_base.specs.declared.step.Step.{Step}
 use Rattle.steer_base.specs.declared.step.Step.TheVariants as act
-use Rattle.hop_core.specs.Hop.{Bare, accepted_at, retired_at, taken_of, placed_of}
+use Rattle.hop_model.specs.Hop.{Bare, accepted_at, retired_at, taken_of, placed_of}
 use Rattle.steer_model.specs.Steps.Applications.{next_in, nothing_sent, sent_of}
 use Rattle.steer_model.specs.State.Machine.{Machine}
 use Rattle.steer_model.specs.Steps.Outcomes.{StepOutcome}

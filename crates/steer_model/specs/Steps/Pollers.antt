@@ -13,13 +13,13 @@ use Rattle.steer_base.specs.declared.command.Answer.TheVariants as says
 use Rattle.steer_base.specs.declared.filter.Filter.{Filter}
 use Rattle.steer_base.specs.declared.idle.Idle.TheVariants as idle
 use Rattle.steer_base.specs.declared.put.Put.TheVariants as went
-use Rattle.hop_core.specs.declared.event.HopEvent.{HopEvent}
-use Rattle.hop_core.specs.declared.event.HopEvent.TheVariants as event
-use Rattle.hop_core.specs.declared.event.HopAnswer.{HopAnswer}
-use Rattle.hop_core.specs.declared.event.HopAnswer.TheVariants as answer
-use Rattle.hop_core.specs.Hop.{inside_of}
-use Rattle.hop_core.specs.Events.{happens}
-use Rattle.hop_core.specs.Reads.{to_weigh}
+use Rattle.hop_model.specs.declared.event.HopEvent.{HopEvent}
+use Rattle.hop_model.specs.declared.event.HopEvent.TheVariants as event
+use Rattle.hop_model.specs.declared.event.HopAnswer.{HopAnswer}
+use Rattle.hop_model.specs.declared.event.HopAnswer.TheVariants as answer
+use Rattle.hop_model.specs.Hop.{inside_of}
+use Rattle.hop_model.specs.Events.{happens}
+use Rattle.hop_model.specs.Reads.{to_weigh}
 use Rattle.sock_flow_table.specs.Sockets.{wanted}
 use Rattle.accel_filter.specs.Table.{filter_of, steered}
 use Rattle.rss_table.specs.Redirection.{queue_of}

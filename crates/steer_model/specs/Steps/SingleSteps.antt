@@ -5,7 +5,7 @@ use Rattle.steer_base.specs.declared.command.Answer.TheVariants as says
 use Rattle.steer_base.specs.declared.idle.Idle.TheVariants as idle
 use Rattle.steer_base.specs.declared.step.Step.{Step}
 use Rattle.steer_base.specs.declared.step.Step.TheVariants as act
-use Rattle.hop_core.specs.declared.event.HopEvent.TheVariants as event
+use Rattle.hop_model.specs.declared.event.HopEvent.TheVariants as event
 use Rattle.steer_model.specs.Steps.Applications.{cpu_delivers, record_flow, send, tput, tweigh}
 use Rattle.steer_model.specs.Steps.Commands.{given}
 use Rattle.steer_model.specs.State.Machine.{Machine}

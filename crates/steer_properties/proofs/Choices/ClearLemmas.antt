@@ -9,12 +9,12 @@ use Rattle.std.proofs.lemmas.Bool.{cases_eq, cases_lt, eq-eqb, leb-true}
 use Rattle.std.proofs.lemmas.List.{get_or-drop, length-drop}
 use Rattle.std.proofs.lemmas.Option.{same_Some}
 use Rattle.history.specs.declared.lane_list.LaneList.{LaneList}
-use Rattle.hop_core.specs.Events.{IsEmptied}
-use Rattle.hop_core.specs.Hop.{HopState, accepted_at, choice_of, choices_of, chosen_at, chose}
-use Rattle.hop_core.specs.Hop.{head_at}
-use Rattle.hop_core.specs.Hop.{next_of, nobody, recent, retired_at, since_of}
-use Rattle.hop_core.specs.Sound.{Sound}
-use Rattle.hop_core.specs.Standing.{StandsAt}
+use Rattle.hop_model.specs.Events.{IsEmptied}
+use Rattle.hop_model.specs.Hop.{HopState, accepted_at, choice_of, choices_of, chosen_at, chose}
+use Rattle.hop_model.specs.Hop.{head_at}
+use Rattle.hop_model.specs.Hop.{next_of, nobody, recent, retired_at, since_of}
+use Rattle.hop_model.specs.Sound.{Sound}
+use Rattle.hop_model.specs.Standing.{StandsAt}
 use Rattle.hop_core.proofs.Alone.{All-passed}
 use Rattle.hop_core.proofs.Fits.{fits_room}
 use Rattle.hop_core.proofs.Lists.{Changed-set, chosen-push_front, chosen-push_last, length-push}

@@ -1,8 +1,8 @@
 -- Every step keeps moves clear in both hops.
 use Rattle.std.proofs.Common.{ℕ, ◌+◌, ◌≡◌, List, [], Some, length, max, ap, arith}
 use Rattle.std.proofs.Common.{replicate}
-use Rattle.hop_core.specs.Hop.{Fixed, HopState, choices_of, next_of}
-use Rattle.hop_core.specs.Shape.{fresh_hop}
+use Rattle.hop_model.specs.Hop.{Fixed, HopState, choices_of, next_of}
+use Rattle.hop_model.specs.Shape.{fresh_hop}
 use Rattle.steer_base.specs.Choices.{desired_cpu}
 use Rattle.steer_base.specs.declared.step.Step.{Step}
 use Rattle.steer_model.specs.Steps.Applications.{everyone, in_reply, pick_for}

@@ -17,9 +17,9 @@ use Rattle.steer_base.specs.declared.choice.Entry.{Entry}
 use Rattle.steer_base.specs.declared.choice.Why.TheVariants.{Kept, Offline, Passed, Same}
 use Rattle.steer_base.specs.declared.cpu_mask.CpuMask.{CpuMask}
 use Rattle.steer_base.proofs.RuleLemmas.{by_entry-class}
-use Rattle.hop_core.specs.Hop.{HopState, accepted_at, choice_of, choices_of, chosen_at, chose}
-use Rattle.hop_core.specs.Hop.{head_at, next_of, nobody, retired_at, since_of}
-use Rattle.hop_core.specs.Sound.{Sound}
+use Rattle.hop_model.specs.Hop.{HopState, accepted_at, choice_of, choices_of, chosen_at, chose}
+use Rattle.hop_model.specs.Hop.{head_at, next_of, nobody, retired_at, since_of}
+use Rattle.hop_model.specs.Sound.{Sound}
 use Rattle.hop_core.proofs.Fits.{fits_room}
 use Rattle.hop_core.proofs.Lists.{Changed-set, chosen-push_front, chosen-push_last, length-push}
 use Rattle.history.specs.Lists.{lane_at}

@@ -6,8 +6,8 @@ use Rattle.std.proofs.lemmas.Bool.{cases_eq}
 use Rattle.std.proofs.lemmas.List.{get_or-set_same}
 use Rattle.history.specs.Lists.{list_at}
 use Rattle.history.specs.declared.sock_write.SockWrite.{SockWrite}
-use Rattle.hop_core.specs.Hop.{HopState, arrivals_of, choices_of, inside_of, next_of, taken_of}
-use Rattle.hop_core.specs.Sound.{Sound}
+use Rattle.hop_model.specs.Hop.{HopState, arrivals_of, choices_of, inside_of, next_of, taken_of}
+use Rattle.hop_model.specs.Sound.{Sound}
 use Rattle.hop_core.proofs.GateSteps.{count_some}
 use Rattle.hop_core.proofs.Lists.{Changed-set}
 use Rattle.steer_base.specs.Choices.{class_of}
@@ -24,7 +24,7 @@ use Rattle.steer_model.specs.Steps.Pollers.{with_note, seen_by, socket_seen}
 use Rattle.steer_model.specs.State.Settings.{Settings, class_at}
 use Rattle.steer_model.specs.State.Setup.{packet_hash}
 use Rattle.steer_model.specs.Steps.SingleSteps.{simple}
-use Rattle.steer_model.specs.Origins.SocketOrigins.{SocketIsWritten}
+use Rattle.step_laws.specs.Origins.SocketOrigins.{SocketIsWritten}
 use Rattle.steer_model.specs.declared.note.Note.TheVariants as note
 use Rattle.steer_invariant.specs.Invariant.{Invariant}
 use Rattle.steer_invariant.specs.StepInvariant.{IsNamed}

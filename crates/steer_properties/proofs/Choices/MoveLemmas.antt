@@ -12,7 +12,7 @@ use Rattle.std.proofs.lemmas.Option.{same_Some}
 use Rattle.history.specs.Lists.{list_at}
 use Rattle.history.specs.declared.history.History.{History}
 use Rattle.history.specs.declared.sent.Sent.{Sent}
-use Rattle.hop_core.specs.Hop.{choices_of, chosen_at, nobody}
+use Rattle.hop_model.specs.Hop.{choices_of, chosen_at, nobody}
 use Rattle.hop_core.proofs.Standing.{current_lane-in}
 use Rattle.steer_base.specs.Choices.{desired_cpu, migrate}
 use Rattle.steer_base.specs.Counters.{has_reached}

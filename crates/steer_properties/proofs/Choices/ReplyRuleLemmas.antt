@@ -12,9 +12,9 @@ use Rattle.steer_base.specs.Sets.{has}
 use Rattle.steer_base.specs.declared.choice.Choice.{Choice}
 use Rattle.steer_base.specs.declared.choice.Chosen.{Chosen}
 use Rattle.steer_base.specs.declared.choice.Entry.{Entry}
-use Rattle.hop_core.specs.Hop.{HopState, accepted_at, choices_of, chosen_at, head_at, next_of}
-use Rattle.hop_core.specs.Hop.{nobody, recent, since_of, taken_of}
-use Rattle.hop_core.specs.Sound.{Sound}
+use Rattle.hop_model.specs.Hop.{HopState, accepted_at, choices_of, chosen_at, head_at, next_of}
+use Rattle.hop_model.specs.Hop.{nobody, recent, since_of, taken_of}
+use Rattle.hop_model.specs.Sound.{Sound}
 use Rattle.hop_core.proofs.KeptHeads.{kept_head_decides}
 use Rattle.hop_core.proofs.Lists.{Changed-set, chosen-push_last, length-push}
 use Rattle.history.specs.Lists.{list_at}

@@ -14,10 +14,10 @@ use Rattle.steer_base.specs.declared.choice.Chosen.{Chosen}
 use Rattle.steer_base.specs.declared.choice.Entry.{Entry}
 use Rattle.steer_base.specs.declared.choice.Why.TheVariants.{Kept, Offline, Passed, Same}
 use Rattle.steer_base.specs.declared.cpu_mask.CpuMask.{CpuMask}
-use Rattle.hop_core.specs.Hop.{HopState, accepted_at, choices_of, chosen_at, head_at}
-use Rattle.hop_core.specs.Hop.{next_of, nobody, recent, since_of}
+use Rattle.hop_model.specs.Hop.{HopState, accepted_at, choices_of, chosen_at, head_at}
+use Rattle.hop_model.specs.Hop.{next_of, nobody, recent, since_of}
 use Rattle.hop_core.specs.Laws.{entries_before}
-use Rattle.hop_core.specs.Sound.{Sound}
+use Rattle.hop_model.specs.Sound.{Sound}
 use Rattle.hop_core.proofs.KeptHeads.{kept_head_decides}
 use Rattle.hop_core.proofs.Lists.{Changed-set, chosen-push_last, length-push}
 use Rattle.steer_model.specs.Good.Choices.{IsByRule, WasWritten, accepted_in}

@@ -3,13 +3,13 @@ use Rattle.std.proofs.Common.{ℕ, ◌+◌, ◌<◌, ◌≡◌, cond, List, [], 
 use Rattle.std.proofs.Common.{length, ap, ◌∙◌, sym, subst, arith, inl, inr, get_or}
 use Rattle.std.proofs.lemmas.Bool.{cases_eq}
 use Rattle.std.proofs.lemmas.List.{length_push}
-use Rattle.hop_core.specs.Hop.{HopState, choices_of, since_of}
+use Rattle.hop_model.specs.Hop.{HopState, choices_of, since_of}
 use Rattle.hop_core.proofs.Lists.{Changed-set}
 use Rattle.history.specs.declared.commanded.Commanded.{Commanded}
 use Rattle.steer_base.specs.declared.choice.Chosen.{Chosen}
 use Rattle.steer_base.specs.declared.command.Command.{Command}
 use Rattle.steer_base.specs.declared.step.Step.{Step}
-use Rattle.hop_core.specs.Hop.{next_of}
+use Rattle.hop_model.specs.Hop.{next_of}
 use Rattle.steer_model.specs.Steps.Commands.{answer_to, given, is_done}
 use Rattle.steer_model.specs.Good.Inputs.{Input, is_resize, settings_after, setup_in, since_at}
 use Rattle.steer_model.specs.State.Machine.{Machine}

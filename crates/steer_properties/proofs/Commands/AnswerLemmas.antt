@@ -17,9 +17,9 @@ use Rattle.steer_base.specs.declared.command.Command.{Command}
 use Rattle.steer_base.specs.declared.command.Command.TheVariants as give
 use Rattle.steer_base.specs.declared.command.Refused.{Refused}
 use Rattle.steer_base.proofs.SetsLemmas.{those_below-below, those_below-passes}
-use Rattle.hop_core.specs.Emptied.{emptied_of, first_busy, is_waiting, waiting}
-use Rattle.hop_core.specs.Hop.{HopState, accepted_at, head_at, retired_at, tail_at}
-use Rattle.hop_core.specs.Sound.{Sound}
+use Rattle.hop_model.specs.Emptied.{emptied_of, first_busy, is_waiting, waiting}
+use Rattle.hop_model.specs.Hop.{HopState, accepted_at, head_at, retired_at, tail_at}
+use Rattle.hop_model.specs.Sound.{Sound}
 use Rattle.steer_model.specs.Steps.Commands.{affects, answer_to, by_gate, emptied_answer}
 use Rattle.steer_model.specs.Steps.Commands.{gated, gone, may_go, refused_answer, refused_or}
 use Rattle.steer_model.specs.Good.Commands.{refused_with}

@@ -13,7 +13,7 @@ use Rattle.steer_base.specs.declared.step.Step.{Step}
 use Rattle.steer_model.specs.Steps.Commands.{answer_to, given}
 use Rattle.steer_model.specs.Good.Commands.{refused_with}
 use Rattle.steer_model.specs.Good.Inputs.{Input, settings_after, setup_in}
-use Rattle.steer_model.specs.Origins.SettingWrites.{NamesCpu}
+use Rattle.step_laws.specs.Origins.SettingWrites.{NamesCpu}
 use Rattle.steer_model.specs.State.Machine.{Machine}
 use Rattle.steer_model.specs.State.Settings.{Settings}
 use Rattle.steer_model.specs.State.Setup.{Setup}

@@ -4,8 +4,8 @@ use Rattle.std.proofs.Common.{◌∙◌, sym, arith, inl, inr}
 use Rattle.history.specs.Lists.{lane_at}
 use Rattle.history.specs.declared.commanded.Commanded.{Commanded}
 use Rattle.history.specs.declared.lane_list.LaneList.{LaneList}
-use Rattle.hop_core.specs.Hop.{HopState, accepted_at, retired_at}
-use Rattle.hop_core.specs.Sound.{Sound}
+use Rattle.hop_model.specs.Hop.{HopState, accepted_at, retired_at}
+use Rattle.hop_model.specs.Sound.{Sound}
 use Rattle.hop_core.proofs.Fits.{fits_room}
 use Rattle.steer_base.specs.Counters.{distance, number}
 use Rattle.steer_base.specs.declared.command.Answer.{Answer}

@@ -5,13 +5,13 @@ use Rattle.std.specs.Prelude.{nat_lt, slice_index, slice_set}
 use Rattle.std.proofs.lemmas.Bool.{ltb-false, ltb-true}
 use Rattle.std.proofs.lemmas.List.{get_or-set_same}
 use Rattle.steer_base.specs.declared.idle.Idle.TheVariants as idle
-use Rattle.hop_core.specs.declared.event.HopAnswer.TheVariants as answer
-use Rattle.hop_core.specs.declared.event.HopEvent.TheVariants as event
-use Rattle.hop_core.specs.Events.{Outcome, happens, idles}
-use Rattle.hop_core.specs.Hop.{HopState, accepted_at, deliver_at, delivered_at, out_at, pull_at}
-use Rattle.hop_core.specs.Hop.{pulled_at, retire_at, retired_at, with_bare}
+use Rattle.hop_model.specs.declared.event.HopAnswer.TheVariants as answer
+use Rattle.hop_model.specs.declared.event.HopEvent.TheVariants as event
+use Rattle.hop_model.specs.Events.{Outcome, happens, idles}
+use Rattle.hop_model.specs.Hop.{HopState, accepted_at, deliver_at, delivered_at, out_at, pull_at}
+use Rattle.hop_model.specs.Hop.{pulled_at, retire_at, retired_at, with_bare}
 use Rattle.hop_core.specs.Leaves.{Field}
-use Rattle.hop_core.specs.Sound.{Sound}
+use Rattle.hop_model.specs.Sound.{Sound}
 use Rattle.hop_core.proofs.Leaves.{each_leaves}
 use Rattle.steer_invariant.proofs.EitherLemmas.{either}
 use Rattle.steer_properties.specs.CompoundSteps.{RetiresOne}

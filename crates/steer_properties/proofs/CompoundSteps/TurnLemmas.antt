@@ -4,8 +4,8 @@ use Rattle.std.proofs.Common.{subst, arith, suc, zero}
 use Rattle.std.specs.Prelude.{slice_index_or}
 use Rattle.steer_base.specs.declared.step.Step.{Step}
 use Rattle.steer_base.specs.declared.step.Step.TheVariants as act
-use Rattle.hop_core.specs.Hop.{HopState, accepted_at, retired_at}
-use Rattle.hop_core.specs.Sound.{Sound}
+use Rattle.hop_model.specs.Hop.{HopState, accepted_at, retired_at}
+use Rattle.hop_model.specs.Sound.{Sound}
 use Rattle.steer_model.specs.State.Machine.{Machine}
 use Rattle.steer_model.specs.State.Setup.{Setup, app_for}
 use Rattle.steer_model.specs.Steps.Applications.{in_lane}

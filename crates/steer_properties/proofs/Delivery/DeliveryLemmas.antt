@@ -2,7 +2,7 @@
 use Rattle.std.proofs.Common.{ℕ, ◌≡◌, refl, ◌∙◌, sym, subst}
 use Rattle.steer_base.specs.declared.step.Step.{Step}
 use Rattle.backlog.specs.Offers.{AllExplained}
-use Rattle.hop_core.specs.Hop.{Fixed}
+use Rattle.hop_model.specs.Hop.{Fixed}
 use Rattle.history.specs.Lists.{lane_at}
 use Rattle.history.specs.Regular.{Regular}
 use Rattle.history.specs.declared.history.History.{History}

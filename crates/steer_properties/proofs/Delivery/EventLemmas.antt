@@ -8,15 +8,15 @@ use Rattle.std.proofs.lemmas.Option.{unwrap_or-slice_get}
 use Rattle.steer_base.specs.Apps.{app_of}
 use Rattle.steer_base.specs.Choices.{class_of, rps_choice_of}
 use Rattle.steer_base.specs.declared.choice.Chosen.{Chosen}
-use Rattle.hop_core.specs.declared.event.HopEvent.{HopEvent}
-use Rattle.hop_core.specs.declared.event.HopEvent.TheVariants as event
-use Rattle.hop_core.specs.Events.{AllMayAsk, MayAsk, happens, run}
+use Rattle.hop_model.specs.declared.event.HopEvent.{HopEvent}
+use Rattle.hop_model.specs.declared.event.HopEvent.TheVariants as event
+use Rattle.hop_model.specs.Events.{AllMayAsk, MayAsk, happens, run}
 use Rattle.hop_core.specs.Flows.{FlowAllowed}
-use Rattle.hop_core.specs.Hop.{Fixed, HopState, choices_of, chosen_at, delivered_at, in_hand}
-use Rattle.hop_core.specs.Hop.{next_out, nobody, placed_of, pulled_at, since_of}
+use Rattle.hop_model.specs.Hop.{Fixed, HopState, choices_of, chosen_at, delivered_at, in_hand}
+use Rattle.hop_model.specs.Hop.{next_out, nobody, placed_of, pulled_at, since_of}
 use Rattle.hop_core.specs.Laws.{IsHashed}
 use Rattle.hop_core.specs.Settled.{AreAlike, SettledIn}
-use Rattle.hop_core.specs.Sound.{Sound}
+use Rattle.hop_model.specs.Sound.{Sound}
 use Rattle.hop_core.proofs.AllSteps.{Sound-happens}
 use Rattle.hop_core.proofs.BareEvents.{each_keeps_drops_rising}
 use Rattle.hop_core.proofs.Drops.{each_explains_drops}

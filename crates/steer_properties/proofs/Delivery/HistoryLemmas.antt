@@ -15,9 +15,9 @@ use Rattle.steer_base.specs.declared.packet.Packet.{Packet}
 use Rattle.steer_base.specs.declared.put.LaneDrop.{LaneDrop}
 use Rattle.backlog.specs.Offers.{AllExplained}
 use Rattle.hop_core.specs.Flows.{arrived_by}
-use Rattle.hop_core.specs.Hop.{Fixed, HopState, arrivals_of, drops_at, lane_of, out_at}
+use Rattle.hop_model.specs.Hop.{Fixed, HopState, arrivals_of, drops_at, lane_of, out_at}
 use Rattle.hop_core.specs.Order.{IsInOrder}
-use Rattle.hop_core.specs.Sound.{Sound}
+use Rattle.hop_model.specs.Sound.{Sound}
 use Rattle.hop_core.proofs.EndToEnd.{end_to_end}
 use Rattle.hop_core.proofs.Flows.{FlowInOrder-from}
 use Rattle.hop_core.proofs.Order.{InOrder-from}

@@ -1,9 +1,9 @@
 -- That the machine delivers each flow in order and drops for a cause, as each event of its hops has
 -- to keep it.
 use Rattle.std.specs.Prelude.{ℕ, ◌<◌, ◌≡◌, Bool, ◌&&◌, ◌==◌, nat_lt, length}
-use Rattle.hop_core.specs.BareEvents.{LaneDropsRise}
+use Rattle.hop_model.specs.BareEvents.{LaneDropsRise}
 use Rattle.hop_core.specs.Flows.{FlowOrdered}
-use Rattle.hop_core.specs.Hop.{Fixed, HopState}
+use Rattle.hop_model.specs.Hop.{Fixed, HopState}
 use Rattle.hop_core.specs.Laws.{DropsExplained}
 use Rattle.steer_model.specs.State.Machine.{Machine}
 use Rattle.steer_model.specs.State.Setup.{Setup, app_for, flow_number_of, packet_hash}

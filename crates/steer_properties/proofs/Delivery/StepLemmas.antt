@@ -12,11 +12,12 @@ use Rattle.steer_base.specs.declared.idle.Idle.TheVariants as idle
 use Rattle.steer_base.specs.declared.packet.Packet.{Packet}
 use Rattle.steer_base.specs.declared.step.Step.{Step}
 use Rattle.steer_base.specs.declared.step.Step.TheVariants as act
-use Rattle.hop_core.specs.declared.event.HopEvent.{HopEvent}
-use Rattle.hop_core.specs.declared.event.HopEvent.TheVariants as event
-use Rattle.hop_core.specs.Events.{AllMayAsk, MayAsk, happens, run}
-use Rattle.hop_core.specs.Hop.{Fixed, HopState, choices_of, inside_of, next_of, placed_of, taken_of}
-use Rattle.hop_core.specs.Reads.{to_weigh}
+use Rattle.hop_model.specs.declared.event.HopEvent.{HopEvent}
+use Rattle.hop_model.specs.declared.event.HopEvent.TheVariants as event
+use Rattle.hop_model.specs.Events.{AllMayAsk, MayAsk, happens, run}
+use Rattle.hop_model.specs.Hop.{Fixed, HopState, choices_of, inside_of, next_of, placed_of}
+use Rattle.hop_model.specs.Hop.{taken_of}
+use Rattle.hop_model.specs.Reads.{to_weigh}
 use Rattle.hop_core.proofs.BareEvents.{fresh_drops_rise}
 use Rattle.hop_core.proofs.Drops.{fresh_is_explained}
 use Rattle.hop_core.proofs.New.{Ordered-fresh}

@@ -10,7 +10,7 @@ use Rattle.std.proofs.lemmas.Bool.{cases_lt, eq-eqb, le-ltb}
 use Rattle.std.proofs.lemmas.List.{get_or_append_left, length-append}
 use Rattle.std.proofs.lemmas.List.Elements.{All-push, filter_map-append}
 use Rattle.history.specs.Lists.{arrivals_at, list_at}
-use Rattle.hop_core.specs.Hop.{choices_of, taken_of}
+use Rattle.hop_model.specs.Hop.{choices_of, taken_of}
 use Rattle.plan_reader.specs.Plans.{count_of, nth_of, sizes_of}
 use Rattle.plan_reader.specs.Ranges.{step_is_within}
 use Rattle.plan_reader.specs.declared.plan.Plan.{Plan}

@@ -5,11 +5,11 @@ use Rattle.std.specs.List.{AllPass}
 use Rattle.std.proofs.Math.ListN.{length-map}
 use Rattle.std.proofs.lemmas.List.{length-replicate}
 use Rattle.history.specs.declared.history.History.{History}
-use Rattle.hop_core.specs.Hop.{Fixed, choices_of}
+use Rattle.hop_model.specs.Hop.{Fixed, choices_of}
 use Rattle.plan_reader.specs.Plans.{sizes_of}
 use Rattle.plan_reader.specs.Ranges.{step_is_within}
 use Rattle.steer_base.specs.declared.step.Step.{Step}
-use Rattle.steer_model.specs.Origins.FilterOrigins.{FiltersAreFrom}
+use Rattle.step_laws.specs.Origins.FilterOrigins.{FiltersAreFrom}
 use Rattle.steer_model.specs.Good.Arrivals.{QueuesAreSeen}
 use Rattle.steer_model.specs.Good.Choices.{AreByRule, HeadsAreRising, HeadsRise}
 use Rattle.steer_model.specs.Good.Inputs.{Input, settings_at, setup_in}
@@ -17,10 +17,10 @@ use Rattle.steer_model.specs.State.Machine.{Machine, history_of, history_lanes}
 use Rattle.steer_model.specs.State.Setup.{Setup}
 use Rattle.steer_model.specs.State.Start.{fresh_rx, fresh_tx, new_machine, steps_of}
 use Rattle.steer_model.specs.Steps.SingleSteps.{simple}
-use Rattle.steer_model.specs.Origins.SocketOrigins.{SocketIsWritten}
+use Rattle.step_laws.specs.Origins.SocketOrigins.{SocketIsWritten}
 use Rattle.steer_model.specs.Steps.CompoundSteps.{after}
-use Rattle.steer_model.proofs.Origins.FilterOriginLemmas.{filters_are_from_choices}
-use Rattle.steer_model.proofs.Origins.SocketOriginLemmas.{entries_are_written}
+use Rattle.step_laws.proofs.Origins.FilterOriginLemmas.{filters_are_from_choices}
+use Rattle.step_laws.proofs.Origins.SocketOriginLemmas.{entries_are_written}
 use Rattle.steer_invariant.specs.Invariant.{Invariant}
 use Rattle.steer_invariant.specs.InvariantLaws.{MayStart}
 use Rattle.steer_invariant.specs.StepInvariant.{IsNamed}

@@ -6,9 +6,9 @@ use Rattle.std.specs.Prelude.{slice_index_or, slice_set}
 use Rattle.steer_base.specs.declared.command.Answer.{Answer}
 use Rattle.steer_base.specs.declared.command.Command.{Command}
 use Rattle.steer_base.specs.declared.filter.Filter.{Filter}
-use Rattle.hop_core.specs.declared.event.HopEvent.{HopEvent}
-use Rattle.hop_core.specs.Events.{happens, run}
-use Rattle.hop_core.specs.Hop.{HopState, choices_of, inside_of, since_of}
+use Rattle.hop_model.specs.declared.event.HopEvent.{HopEvent}
+use Rattle.hop_model.specs.Events.{happens, run}
+use Rattle.hop_model.specs.Hop.{HopState, choices_of, inside_of, since_of}
 use Rattle.hop_core.specs.Leaves.{Field, changes}
 use Rattle.hop_core.proofs.Leaves.{each_leaves}
 use Rattle.history.specs.Lists.{list_at}

@@ -11,14 +11,14 @@ use Rattle.steer_base.specs.declared.idle.Idle.TheVariants as idle
 use Rattle.steer_base.specs.declared.put.DropCause.{DropCause}
 use Rattle.steer_base.specs.declared.step.Step.{Step}
 use Rattle.steer_base.specs.declared.step.Step.TheVariants as act
-use Rattle.hop_core.specs.declared.event.HopAnswer.{HopAnswer}
-use Rattle.hop_core.specs.declared.event.HopEvent.{HopEvent}
-use Rattle.hop_core.specs.declared.event.HopEvent.TheVariants as event
-use Rattle.hop_core.specs.Events.{happens, run}
-use Rattle.hop_core.specs.Hop.{HopState, choices_of, in_hand, inside_of, lane_of, placed_of}
-use Rattle.hop_core.specs.Hop.{pulled_at, put_one, taken_of}
+use Rattle.hop_model.specs.declared.event.HopAnswer.{HopAnswer}
+use Rattle.hop_model.specs.declared.event.HopEvent.{HopEvent}
+use Rattle.hop_model.specs.declared.event.HopEvent.TheVariants as event
+use Rattle.hop_model.specs.Events.{happens, run}
+use Rattle.hop_model.specs.Hop.{HopState, choices_of, in_hand, inside_of, lane_of, placed_of}
+use Rattle.hop_model.specs.Hop.{pulled_at, put_one, taken_of}
 use Rattle.hop_core.specs.Leaves.{Field, changes}
-use Rattle.hop_core.specs.Reads.{to_weigh}
+use Rattle.hop_model.specs.Reads.{to_weigh}
 use Rattle.hop_core.proofs.Cases.{Enabled, by_cases}
 use Rattle.hop_core.proofs.Leaves.{each_leaves}
 use Rattle.hop_core.proofs.PutSteps.{put_as}

@@ -17,13 +17,13 @@ use Rattle.steer_base.specs.declared.filter.Filter.{Filter}
 use Rattle.steer_base.specs.declared.idle.Idle.TheVariants as idle
 use Rattle.steer_base.specs.declared.step.Step.{Step}
 use Rattle.steer_base.specs.declared.step.Step.TheVariants as act
-use Rattle.hop_core.specs.declared.event.HopEvent.{HopEvent}
-use Rattle.hop_core.specs.declared.event.HopEvent.TheVariants as event
-use Rattle.hop_core.specs.Events.{AllMayAsk, MayAsk, happens, run}
-use Rattle.hop_core.specs.Hop.{HopState, choice_of, choices_of, chose, inside_of, next_of}
-use Rattle.hop_core.specs.Hop.{placed_of, taken_of}
+use Rattle.hop_model.specs.declared.event.HopEvent.{HopEvent}
+use Rattle.hop_model.specs.declared.event.HopEvent.TheVariants as event
+use Rattle.hop_model.specs.Events.{AllMayAsk, MayAsk, happens, run}
+use Rattle.hop_model.specs.Hop.{HopState, choice_of, choices_of, chose, inside_of, next_of}
+use Rattle.hop_model.specs.Hop.{placed_of, taken_of}
 use Rattle.hop_core.specs.Leaves.{Field, changes}
-use Rattle.hop_core.specs.Reads.{to_weigh}
+use Rattle.hop_model.specs.Reads.{to_weigh}
 use Rattle.hop_core.proofs.Cases.{by_cases}
 use Rattle.hop_core.proofs.Leaves.{each_leaves}
 use Rattle.history.specs.declared.sent.Sent.{Sent}

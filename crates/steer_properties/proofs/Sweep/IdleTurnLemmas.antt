@@ -9,7 +9,7 @@ use Rattle.steer_base.specs.declared.step.Step.{Step}
 use Rattle.steer_model.specs.State.Machine.{Machine}
 use Rattle.steer_model.specs.Steps.SingleSteps.{is_command, is_idle, is_work, simple}
 use Rattle.steer_model.specs.Steps.CompoundSteps.{Progress, tried, tries}
-use Rattle.steer_model.proofs.Steps.IdleLemmas.{idle_leaves_all}
+use Rattle.step_laws.proofs.IdleLemmas.{idle_leaves_all}
 
 -- ---- tests
 

@@ -6,24 +6,24 @@ use Rattle.std.proofs.lemmas.Bool.{cases_Bool, ltb-false}
 use Rattle.std.proofs.Math.ListN.{length-map}
 use Rattle.steer_base.specs.declared.step.Step.{Step}
 use Rattle.steer_base.specs.declared.step.Step.TheVariants as act
-use Rattle.hop_core.specs.Events.{IsEmptied}
-use Rattle.hop_core.specs.Hop.{HopState, accepted_at, arrivals_of, choices_of, delivered_at}
-use Rattle.hop_core.specs.Hop.{inside_of, out_at, placed_of, pulled_at, retired_at, taken_of}
-use Rattle.hop_core.specs.Sound.{Sound}
+use Rattle.hop_model.specs.Events.{IsEmptied}
+use Rattle.hop_model.specs.Hop.{HopState, accepted_at, arrivals_of, choices_of, delivered_at}
+use Rattle.hop_model.specs.Hop.{inside_of, out_at, placed_of, pulled_at, retired_at, taken_of}
+use Rattle.hop_model.specs.Sound.{Sound}
 use Rattle.steer_model.specs.Steps.Applications.{next_in, sent_of}
 use Rattle.steer_model.specs.State.Machine.{Machine, note_of}
-use Rattle.steer_model.specs.Steps.IdleReasons.{AreStaged, IsStaged, Need, Stage, answer_by_needs}
-use Rattle.steer_model.specs.Steps.IdleReasons.{is_at}
-use Rattle.steer_model.specs.Steps.IdleReasons.{lane_hand}
-use Rattle.steer_model.specs.Steps.IdleReasons.{lane_stage, needs, poller_hand, poller_stage}
-use Rattle.steer_model.specs.Steps.IdleReasons.{puts_next}
-use Rattle.steer_model.specs.Steps.IdleReasons.{sender_hand, sender_stage, weighs_next}
-use Rattle.steer_model.specs.Steps.IdleReasons as stage
+use Rattle.step_laws.specs.IdleReasons.{AreStaged, IsStaged, Need, Stage, answer_by_needs}
+use Rattle.step_laws.specs.IdleReasons.{is_at}
+use Rattle.step_laws.specs.IdleReasons.{lane_hand}
+use Rattle.step_laws.specs.IdleReasons.{lane_stage, needs, poller_hand, poller_stage}
+use Rattle.step_laws.specs.IdleReasons.{puts_next}
+use Rattle.step_laws.specs.IdleReasons.{sender_hand, sender_stage, weighs_next}
+use Rattle.step_laws.specs.IdleReasons as stage
 use Rattle.steer_model.specs.Steps.SingleSteps.{is_command, is_idle, simple}
 use Rattle.steer_model.specs.Steps.CompoundSteps.{drain_one, ship_one}
 use Rattle.steer_model.specs.declared.note.Note.{Note}
 use Rattle.steer_model.specs.declared.note.Note.TheVariants as note
-use Rattle.steer_model.proofs.Steps.ReasonLemmas.{idle_for_first_reason}
+use Rattle.step_laws.proofs.ReasonLemmas.{idle_for_first_reason}
 use Rattle.steer_invariant.specs.StepInvariant.{StepInvariant}
 use Rattle.steer_invariant.specs.HopInvariants.{IsNoted}
 use Rattle.steer_properties.specs.Sweep.Rest.{PollerRests, SenderRests}

@@ -5,9 +5,9 @@ use Rattle.std.proofs.lemmas.Bool.{cases_Bool, cases_eq, lt-ltb}
 use Rattle.std.proofs.lemmas.List.{get_or-set_same}
 use Rattle.steer_base.specs.declared.step.Step.{Step}
 use Rattle.steer_base.specs.declared.step.Step.TheVariants as act
-use Rattle.hop_core.specs.declared.event.HopEvent.TheVariants as event
-use Rattle.hop_core.specs.Events.{IsEmptied, happens}
-use Rattle.hop_core.specs.Hop.{HopState, inside_of}
+use Rattle.hop_model.specs.declared.event.HopEvent.TheVariants as event
+use Rattle.hop_model.specs.Events.{IsEmptied, happens}
+use Rattle.hop_model.specs.Hop.{HopState, inside_of}
 use Rattle.steer_model.specs.State.Machine.{Machine}
 use Rattle.steer_model.specs.State.Setup.{Setup, flow_number_of}
 use Rattle.steer_model.specs.Steps.CompoundSteps.{Progress, again, drain, drain_one, for_each, poll}

@@ -8,7 +8,7 @@ use Rattle.std.proofs.lemmas.Bool.{cases_Bool}
 use Rattle.std.proofs.lemmas.List.Sums.{sum_by-cons}
 use Rattle.steer_base.specs.declared.choice.Chosen.{Chosen}
 use Rattle.steer_base.specs.declared.step.Step.{Step}
-use Rattle.hop_core.specs.Hop.{HopState, choices_of, taken_of}
+use Rattle.hop_model.specs.Hop.{HopState, choices_of, taken_of}
 use Rattle.hop_core.specs.Work.{sum_of, total, work}
 use Rattle.hop_core.proofs.Work.{room-lists, work_is_bounded}
 use Rattle.steer_model.specs.State.Machine.{Machine, note_of}

@@ -9,9 +9,9 @@ use Rattle.std.proofs.lemmas.List.Elements.{filter_map-append}
 use Rattle.steer_base.specs.declared.packet.Packet.{Packet}
 use Rattle.steer_base.specs.declared.step.Step.{Step}
 use Rattle.steer_base.specs.declared.step.Step.TheVariants as act
-use Rattle.hop_core.specs.Events.{IsEmptied}
-use Rattle.hop_core.specs.Hop.{HopState, fell_at, out_at}
-use Rattle.hop_core.specs.Sound.{Sound}
+use Rattle.hop_model.specs.Events.{IsEmptied}
+use Rattle.hop_model.specs.Hop.{HopState, fell_at, out_at}
+use Rattle.hop_model.specs.Sound.{Sound}
 use Rattle.history.specs.Finding.{is_in}
 use Rattle.history.specs.Lists.{no_arrival, no_lane}
 use Rattle.history.proofs.FoundAgain.Arrivals.{arrival-id}

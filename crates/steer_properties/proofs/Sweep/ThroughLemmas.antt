@@ -6,11 +6,11 @@ use Rattle.std.specs.List.{Contains}
 use Rattle.std.proofs.Math.ListN.{get_or-eq_default}
 use Rattle.std.proofs.lemmas.Bool.{cases_Bool, cases_lt, eq-eqb}
 use Rattle.std.proofs.lemmas.List.{get_or_default}
-use Rattle.hop_core.specs.Events.{IsEmptied}
-use Rattle.hop_core.specs.Hop.{HopState, accepted_at, arrivals_of, choices_of, chosen_at, fell_at}
-use Rattle.hop_core.specs.Hop.{out_at, placed_of}
+use Rattle.hop_model.specs.Events.{IsEmptied}
+use Rattle.hop_model.specs.Hop.{HopState, accepted_at, arrivals_of, choices_of, chosen_at, fell_at}
+use Rattle.hop_model.specs.Hop.{out_at, placed_of}
 use Rattle.hop_core.specs.NothingLost.{IsInOutLane, NothingLost}
-use Rattle.hop_core.specs.Sound.{Sound}
+use Rattle.hop_model.specs.Sound.{Sound}
 use Rattle.history.specs.Lists.{arrivals_at, no_arrival}
 use Rattle.history.specs.declared.arrival.Arrival.{Arrival}
 use Rattle.history.proofs.FoundAgain.Arrivals.{arrival-id}

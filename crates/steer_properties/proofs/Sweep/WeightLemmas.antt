@@ -12,14 +12,14 @@ use Rattle.steer_base.specs.declared.command.Answer.TheVariants as says
 use Rattle.steer_base.specs.declared.idle.Idle.TheVariants as idle
 use Rattle.steer_base.specs.declared.step.Step.{Step}
 use Rattle.steer_base.specs.declared.step.Step.TheVariants as act
-use Rattle.hop_core.specs.declared.event.HopAnswer.{HopAnswer}
-use Rattle.hop_core.specs.declared.event.HopEvent.{HopEvent}
-use Rattle.hop_core.specs.declared.event.HopEvent.TheVariants as event
-use Rattle.hop_core.specs.Events.{MayAsk, Outcome as HopOutcome, happens}
-use Rattle.hop_core.specs.Hop.{HopState, choices_of, inside_of, next_of, placed_of, taken_of}
+use Rattle.hop_model.specs.declared.event.HopAnswer.{HopAnswer}
+use Rattle.hop_model.specs.declared.event.HopEvent.{HopEvent}
+use Rattle.hop_model.specs.declared.event.HopEvent.TheVariants as event
+use Rattle.hop_model.specs.Events.{MayAsk, Outcome as HopOutcome, happens}
+use Rattle.hop_model.specs.Hop.{HopState, choices_of, inside_of, next_of, placed_of, taken_of}
 use Rattle.hop_core.specs.Leaves.{Field, changes}
-use Rattle.hop_core.specs.Reads.{to_weigh}
-use Rattle.hop_core.specs.Sound.{Sound}
+use Rattle.hop_model.specs.Reads.{to_weigh}
+use Rattle.hop_model.specs.Sound.{Sound}
 use Rattle.hop_core.specs.Work.{WasIdle, sum_of, total, work}
 use Rattle.hop_core.specs.Work as hop
 use Rattle.hop_core.proofs.AllSteps.{Sound-happens}

@@ -22,13 +22,13 @@ use Rattle.steer_model.specs.Good.Arrivals.{EntryFrom}
 use Rattle.steer_model.specs.Good.Commands.{refused_with}
 use Rattle.steer_model.specs.Good.Writes.{IsSize, StoodAt}
 use Rattle.steer_model.specs.Good.Inputs.{Input, WasDone}
-use Rattle.steer_model.specs.Origins.SettingWrites.{AreLastWrites, entry_for, if_done, last_write}
-use Rattle.steer_model.specs.Origins.SettingWrites.{sock_for}
-use Rattle.steer_model.specs.Origins.SettingWrites.{stand_for}
+use Rattle.step_laws.specs.Origins.SettingWrites.{AreLastWrites, entry_for, if_done, last_write}
+use Rattle.step_laws.specs.Origins.SettingWrites.{sock_for}
+use Rattle.step_laws.specs.Origins.SettingWrites.{stand_for}
 use Rattle.steer_model.specs.State.Machine.{Machine, history_of}
 use Rattle.steer_model.specs.State.Settings.{Settings}
 use Rattle.steer_model.specs.State.Start.{initial_settings}
-use Rattle.steer_model.proofs.Origins.SettingWriteLemmas.{values_are_last_writes}
+use Rattle.step_laws.proofs.Origins.SettingWriteLemmas.{values_are_last_writes}
 use Rattle.steer_properties.proofs.Commands.AnswerLemmas.{AnswersBy, Ends}
 use Rattle.steer_properties.proofs.Commands.StepLemmas.{Commanding, settings_by}
 use Rattle.steer_properties.proofs.Histories.ExtendLemmas.{Extends, extends-slice_get}

@@ -3,7 +3,7 @@ use Rattle.std.proofs.Common.{ℕ, ◌<◌, ◌≡◌, List, [], length, refl, s
 use Rattle.std.specs.List.{All}
 use Rattle.std.proofs.lemmas.List.Elements.{All-nil}
 use Rattle.history.specs.Lists.{list_at}
-use Rattle.hop_core.specs.Hop.{next_of}
+use Rattle.hop_model.specs.Hop.{next_of}
 use Rattle.history.specs.declared.sent.Sent.{Sent}
 use Rattle.steer_base.specs.declared.step.Step.{Step}
 use Rattle.steer_model.specs.Steps.Applications.{reply_to, sends}

@@ -14,8 +14,8 @@ use Rattle.history.specs.Finding.{is_in}
 use Rattle.history.specs.declared.arrival.Arrival.{Arrival}
 use Rattle.history.specs.declared.lane_list.LaneList.{LaneList}
 use Rattle.history.proofs.RegularLemmas.{is_in-append}
-use Rattle.hop_core.specs.Hop.{accepted_at, choices_of, chosen_at, next_of, nobody}
-use Rattle.hop_core.specs.Sound.{Sound}
+use Rattle.hop_model.specs.Hop.{accepted_at, choices_of, chosen_at, next_of, nobody}
+use Rattle.hop_model.specs.Sound.{Sound}
 use Rattle.rss_table.specs.Redirection.{queue_of}
 use Rattle.steer_base.specs.Arrivals.{route, table_place}
 use Rattle.steer_base.specs.Choices.{class_of, has_moved}
@@ -27,7 +27,7 @@ use Rattle.steer_base.specs.declared.filter.Filter.{Filter}
 use Rattle.steer_base.specs.declared.step.Step.{Step}
 use Rattle.steer_model.specs.Steps.Applications.{sends}
 use Rattle.steer_model.specs.Steps.Commands.{given}
-use Rattle.steer_model.specs.Origins.FilterOrigins.{FilterIsFrom, FiltersAreFrom}
+use Rattle.step_laws.specs.Origins.FilterOrigins.{FilterIsFrom, FiltersAreFrom}
 use Rattle.steer_model.specs.Good.Arrivals.{FilterFrom, QueuesAreSeen, SeenBy}
 use Rattle.steer_model.specs.Good.Inputs.{Input, setup_in}
 use Rattle.steer_model.specs.State.Machine.{Machine, history_of}
@@ -35,7 +35,7 @@ use Rattle.steer_model.specs.Steps.Pollers.{arrival_by, arrives, with_note, rout
 use Rattle.steer_model.specs.State.Setup.{Setup, packet_hash}
 use Rattle.steer_model.specs.State.Start.{new_machine}
 use Rattle.steer_model.specs.Steps.SingleSteps.{simple}
-use Rattle.steer_model.specs.Origins.TableWrites.{filter_at}
+use Rattle.step_laws.specs.Origins.TableWrites.{filter_at}
 use Rattle.steer_model.specs.declared.note.Note.{Note}
 use Rattle.steer_model.specs.declared.note.Note.TheVariants as note
 use Rattle.steer_invariant.specs.Invariant.{Invariant}

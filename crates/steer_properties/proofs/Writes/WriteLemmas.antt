@@ -12,7 +12,7 @@ use Rattle.history.specs.Finding.{found}
 use Rattle.history.specs.Lists.{list_at, no_packet, packet_at}
 use Rattle.history.specs.declared.sock_write.SockWrite.{SockWrite}
 use Rattle.history.proofs.SamePlaces.{found-all}
-use Rattle.hop_core.specs.Hop.{next_of}
+use Rattle.hop_model.specs.Hop.{next_of}
 use Rattle.steer_base.specs.Apps.{app_of}
 use Rattle.steer_base.specs.Choices.{class_of}
 use Rattle.steer_base.specs.declared.packet.Packet.{Packet}

@@ -5,7 +5,7 @@ use Rattle.std.specs.Prelude.{length, take, drop, unwrap_or, slice_get}
 use Rattle.history.specs.Lists.{list_at}
 use Rattle.history.specs.declared.history.History.{History}
 use Rattle.history.specs.declared.sent.Sent.{Sent}
-use Rattle.hop_core.specs.Hop.{chosen_at}
+use Rattle.hop_model.specs.Hop.{chosen_at}
 use Rattle.steer_base.specs.Choices.{desired_cpu}
 use Rattle.steer_base.specs.Entries.{entry}
 use Rattle.steer_base.specs.Moves.{MovesByThree}

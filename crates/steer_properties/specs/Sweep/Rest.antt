@@ -1,8 +1,8 @@
 -- When the machine is at rest: all that can be done without a command is done.
 use Rattle.std.specs.Prelude.{ℕ, ◌<◌, ◌≡◌, ◌⊎◌, length}
 use Rattle.std.specs.List.{Contains}
-use Rattle.hop_core.specs.Events.{IsEmptied}
-use Rattle.hop_core.specs.Hop.{arrivals_of, fell_at, out_at, placed_of}
+use Rattle.hop_model.specs.Events.{IsEmptied}
+use Rattle.hop_model.specs.Hop.{arrivals_of, fell_at, out_at, placed_of}
 use Rattle.hop_core.specs.NothingLost.{IsInOutLane}
 use Rattle.steer_model.specs.Steps.Applications.{sent_of}
 use Rattle.steer_model.specs.State.Machine.{Machine, note_of}

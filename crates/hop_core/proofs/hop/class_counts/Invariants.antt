@@ -1,5 +1,5 @@
 use Rattle.std.proofs.Common.{◌≡◌, map, take}
-use Rattle.hop_core.specs.Shape.{classes_for}
+use Rattle.hop_model.specs.Shape.{classes_for}
 use Rattle.hop_core.proofs.hop.class_counts.Given as goal
 
 abbrev pub invariant-loop-count : goal.invariant-loop-count

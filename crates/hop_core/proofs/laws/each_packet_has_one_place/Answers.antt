@@ -1,5 +1,5 @@
-use Rattle.hop_core.specs.Events.{run}
-use Rattle.hop_core.specs.Shape.{new_hop}
+use Rattle.hop_model.specs.Events.{run}
+use Rattle.hop_model.specs.Shape.{new_hop}
 use Rattle.hop_core.proofs.AllSteps.{Sound-run}
 use Rattle.hop_core.proofs.Apart.{HasPlaces-from}
 use Rattle.hop_core.proofs.New.{Sound-new}

@@ -1,5 +1,5 @@
-use Rattle.hop_core.specs.Events.{run}
-use Rattle.hop_core.specs.Shape.{new_hop}
+use Rattle.hop_model.specs.Events.{run}
+use Rattle.hop_model.specs.Shape.{new_hop}
 use Rattle.hop_core.proofs.New.{Sound-new, Ordered-new}
 use Rattle.hop_core.proofs.Order.{Ordered-run, InOrder-from}
 use Rattle.hop_core.proofs.laws.tight_sets_are_delivered_in_order.Goals as goal

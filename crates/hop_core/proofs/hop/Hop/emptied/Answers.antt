@@ -2,7 +2,7 @@ use Rattle.std.proofs.Common.{◌≡◌, ◌<◌, ℕ, length, ap, sym, subst, a
 use Rattle.steer_base.specs.Sets.{has, those_below}
 use Rattle.std.specs.Prelude.{◌↔◌, IsOk}
 use Rattle.steer_base.proofs.SetsLemmas.{those_below-zero, those_below_fail}
-use Rattle.hop_core.specs.Emptied.{AreEmptied, is_waiting}
+use Rattle.hop_model.specs.Emptied.{AreEmptied, is_waiting}
 use Rattle.hop_core.proofs.Empties.{all_empty, busy_at, emptied_is_exact, waits, waits_not}
 use Rattle.hop_core.proofs.hop.Hop.emptied.Goals as goal
 

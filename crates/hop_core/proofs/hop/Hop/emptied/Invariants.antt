@@ -1,6 +1,6 @@
 use Rattle.std.proofs.Common.{◌≡◌, []}
 use Rattle.steer_base.specs.Sets.{has, those_below}
-use Rattle.hop_core.specs.Emptied.{is_waiting}
+use Rattle.hop_model.specs.Emptied.{is_waiting}
 use Rattle.hop_core.proofs.hop.Hop.emptied.Given as goal
 
 abbrev pub invariant-loop-lane : goal.invariant-loop-lane

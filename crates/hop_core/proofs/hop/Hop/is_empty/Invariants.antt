@@ -1,5 +1,5 @@
 use Rattle.std.proofs.Common.{ℕ, ◌<◌}
-use Rattle.hop_core.specs.Events.{IsEmptied}
+use Rattle.hop_model.specs.Events.{IsEmptied}
 use Rattle.hop_core.proofs.hop.Hop.is_empty.Given as goal
 
 abbrev pub invariant-loop-lane : goal.invariant-loop-lane

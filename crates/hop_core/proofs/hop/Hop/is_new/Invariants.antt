@@ -1,5 +1,5 @@
 use Rattle.std.proofs.Common.{ℕ, ◌<◌, ◌≢◌, length, get_or}
-use Rattle.hop_core.specs.Hop.{arrivals_of}
+use Rattle.hop_model.specs.Hop.{arrivals_of}
 use Rattle.hop_core.proofs.hop.Hop.is_new.Given as goal
 
 abbrev pub invariant-loop-p : goal.invariant-loop-p

@@ -1,6 +1,6 @@
 use Rattle.std.proofs.Common.{map, ap, arith, ◌∙◌}
 use Rattle.hop_core.specs.FlowTables.{new_tables}
-use Rattle.hop_core.specs.Shape.{IsShape, classes_for}
+use Rattle.hop_model.specs.Shape.{IsShape, classes_for}
 use Rattle.hop_core.proofs.Wholes.{are_new, whole-made}
 use Rattle.hop_core.proofs.hop.Hop.make.Goals as goal
 

@@ -3,9 +3,9 @@ use Rattle.std.specs.List.{slice_get}
 use Rattle.std.proofs.lemmas.Bool.{le-ltb, lt-ltb}
 use Rattle.std.proofs.lemmas.Option.{get_or_from_slice_get, slice_get_cases, slice_get_within}
 use Rattle.steer_base.specs.declared.idle.Idle.TheVariants as idle
-use Rattle.hop_core.specs.Events.{pull}
-use Rattle.hop_core.specs.Hop.{HopState, accepted_at, pulled_at, retired_at}
-use Rattle.hop_core.specs.declared.event.HopAnswer.TheVariants as answer
+use Rattle.hop_model.specs.Events.{pull}
+use Rattle.hop_model.specs.Hop.{HopState, accepted_at, pulled_at, retired_at}
+use Rattle.hop_model.specs.declared.event.HopAnswer.TheVariants as answer
 use Rattle.hop_core.proofs.Wholes.{read-retired, whole-pull}
 use Rattle.hop_core.proofs.hop.Hop.pull.Goals as goal
 use Rattle.hop_core.proofs.hop.Hop.pull.Goals.{in-Some, in-None}

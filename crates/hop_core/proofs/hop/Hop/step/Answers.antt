@@ -1,4 +1,4 @@
-use Rattle.hop_core.specs.declared.event.HopEvent.TheVariants as event
+use Rattle.hop_model.specs.declared.event.HopEvent.TheVariants as event
 use Rattle.hop_core.proofs.Wholes.{sizes_stay}
 use Rattle.hop_core.proofs.hop.Hop.step.Goals as goal
 

@@ -1,7 +1,7 @@
 use Rattle.std.proofs.Common.{map, replicate, ap, ◌∙◌, arith}
 use Rattle.std.proofs.lemmas.List.{take_all}
 use Rattle.dev_flow_table.specs.Tables.{unset}
-use Rattle.hop_core.specs.Shape.{classes_for}
+use Rattle.hop_model.specs.Shape.{classes_for}
 use Rattle.hop_core.specs.SharedTable.{rows_from}
 use Rattle.hop_core.proofs.SharedTables.{rows_from-free}
 use Rattle.hop_core.proofs.tables.Tables.make.Goals as goal

@@ -1,7 +1,7 @@
 use Rattle.std.proofs.Common.{◌≡◌, map, replicate, take}
 use Rattle.std.specs.List.{All}
 use Rattle.dev_flow_table.specs.Tables.{unset}
-use Rattle.hop_core.specs.Shape.{classes_for}
+use Rattle.hop_model.specs.Shape.{classes_for}
 use Rattle.hop_core.proofs.tables.Tables.make.Given as goal
 
 abbrev pub invariant-loop-count : goal.invariant-loop-count

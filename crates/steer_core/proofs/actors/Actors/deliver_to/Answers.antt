@@ -1,7 +1,7 @@
 use Rattle.std.proofs.Common.{ap, subst, sym}
-use Rattle.hop_core.specs.Events.{MayAsk}
-use Rattle.hop_core.specs.declared.event.HopEvent.{HopEvent}
-use Rattle.hop_core.specs.declared.event.HopEvent.TheVariants as event
+use Rattle.hop_model.specs.Events.{MayAsk}
+use Rattle.hop_model.specs.declared.event.HopEvent.{HopEvent}
+use Rattle.hop_model.specs.declared.event.HopEvent.TheVariants as event
 use Rattle.steer_model.specs.Steps.Applications.{in_lane}
 use Rattle.steer_invariant.proofs.Invariant.RowLemmas.{held_deliver}
 use Rattle.steer_invariant.proofs.StepInvariant.PollerLemmas.{may_deliver}

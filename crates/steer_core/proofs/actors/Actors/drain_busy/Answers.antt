@@ -1,5 +1,5 @@
 use Rattle.std.proofs.Common.{ap, ◌∙◌, ◌-◌, length}
-use Rattle.hop_core.specs.Hop.{HopState, accepted_at, retired_at}
+use Rattle.hop_model.specs.Hop.{HopState, accepted_at, retired_at}
 use Rattle.steer_core.specs.Running.{Running}
 use Rattle.steer_core.proofs.BusyLemmas.{busy-after-drain, done-after-drain}
 use Rattle.steer_core.proofs.StillLemmas.{emptied-by}

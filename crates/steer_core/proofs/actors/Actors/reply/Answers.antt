@@ -3,7 +3,7 @@ use Rattle.steer_base.specs.declared.step.Step.TheVariants as act
 use Rattle.steer_model.specs.State.Machine.{Machine}
 use Rattle.steer_core.proofs.TurnLemmas.{then-idly, then-with}
 use Rattle.std.proofs.Common.{subst, arith}
-use Rattle.hop_core.specs.Hop.{HopState}
+use Rattle.hop_model.specs.Hop.{HopState}
 use Rattle.steer_core.specs.Resting.{PutsBeside}
 use Rattle.steer_core.specs.Running.{Running}
 use Rattle.steer_core.proofs.SameReplies.{tx-put, tx-still, tx-trans}

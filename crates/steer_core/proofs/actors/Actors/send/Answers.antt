@@ -1,5 +1,5 @@
 use Rattle.std.proofs.Common.{◌≤◌, arith, sym, ◌∙◌}
-use Rattle.hop_core.specs.Hop.{placed_of, taken_of}
+use Rattle.hop_model.specs.Hop.{placed_of, taken_of}
 use Rattle.steer_invariant.proofs.Invariant.RowLemmas.{held_send}
 use Rattle.steer_invariant.proofs.StepInvariant.ReplyLemmas.{may_send, room_send}
 use Rattle.steer_core.proofs.actors.Actors.send.Goals as goal

@@ -1,6 +1,6 @@
 use Rattle.std.proofs.Common.{subst, sym}
-use Rattle.hop_core.specs.Events.{MayAsk}
-use Rattle.hop_core.specs.declared.event.HopEvent.{HopEvent}
+use Rattle.hop_model.specs.Events.{MayAsk}
+use Rattle.hop_model.specs.declared.event.HopEvent.{HopEvent}
 use Rattle.steer_core.specs.Weighings.{weigh_event}
 use Rattle.steer_core.proofs.ChangeLemmas.{by_tx-is}
 use Rattle.steer_invariant.proofs.Invariant.RowLemmas.{held_tweigh}

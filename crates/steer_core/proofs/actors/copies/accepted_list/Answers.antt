@@ -1,5 +1,5 @@
 use Rattle.std.proofs.Common.{◌∙◌, ◌++◌, ◌∷◌, [], List, ℕ, ap, sym}
-use Rattle.hop_core.specs.Hop.{accepted_at}
+use Rattle.hop_model.specs.Hop.{accepted_at}
 use Rattle.steer_core.proofs.ListLemmas.{take-next}
 use Rattle.steer_core.proofs.actors.copies.accepted_list.Goals as goal
 

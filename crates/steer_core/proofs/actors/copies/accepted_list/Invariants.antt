@@ -1,5 +1,5 @@
 use Rattle.std.proofs.Common.{◌≡◌, take}
-use Rattle.hop_core.specs.Hop.{accepted_at}
+use Rattle.hop_model.specs.Hop.{accepted_at}
 use Rattle.steer_core.proofs.actors.copies.accepted_list.Given as goal
 
 abbrev pub invariant-loop-n : goal.invariant-loop-n

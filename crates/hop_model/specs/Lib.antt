@@ -1,0 +1,9 @@
+pub mod BareEvents
+pub mod Emptied
+pub mod Events
+pub mod Hop
+pub mod Pairs
+pub mod Reads
+pub mod Shape
+pub mod Sound
+pub mod Standing

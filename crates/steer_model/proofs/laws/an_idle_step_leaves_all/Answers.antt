@@ -1,5 +1,0 @@
-use Rattle.steer_model.proofs.Steps.IdleLemmas.{idle_leaves_all}
-use Rattle.steer_model.proofs.laws.an_idle_step_leaves_all.Goals as goal
-
-pub returns : goal.returns
-returns c = idle_leaves_all

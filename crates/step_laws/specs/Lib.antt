@@ -1,0 +1,4 @@
+pub mod IdleReasons
+pub mod Origins
+pub mod Settings
+pub mod Steps
