@@ -111,8 +111,8 @@ impl FilterTable {
         over
     }
 
-    /// Clears each filter that is set and may expire, and returns their number. `heads` has the head
-    /// of each processor, `flows` the flow count of each receive queue; where there is none it
+    /// Clears each filter that is set and may expire, and returns their number. `heads` has the
+    /// head of each processor, `flows` the flow count of each receive queue; where there is none it
     /// counts as 0. Takes a step for each set filter, and one for every 64 filters.
     pub fn expire_all(&mut self, heads: &[u32], flows: &[u32]) -> u32
         requires few { All (λ count. count ≤ MAX_FLOW_COUNT) flows.now }
