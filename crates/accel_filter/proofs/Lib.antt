@@ -1,2 +1,4 @@
 mod BitLemmas
+mod ExpiryLemmas
 mod MarksLemmas
+mod WordLemmas

@@ -1,3 +1,4 @@
 pub mod Next
 pub mod Marks
 pub mod Table
+pub mod Expiry
