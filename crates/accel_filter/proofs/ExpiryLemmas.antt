@@ -1,14 +1,16 @@
 -- The expiry of a table, from set filter to set filter.
 use Rattle.std.proofs.Common.{ℕ, ◌+◌, ◌<◌, ◌≤◌, ◌≡◌, Bool, true, false, List, [], ◌∷◌, ◌++◌}
 use Rattle.std.proofs.Common.{Option, None, Some, length, take, drop, map, cond, refl, ap, sym}
-use Rattle.std.proofs.Common.{◌∙◌, arith, zero, suc, get_or, add-one, append-nil, length-append}
+use Rattle.std.proofs.Common.{◌∙◌, arith, zero, suc, inl, inr, subst, get_or, add-one, append-nil, length-append}
 use Rattle.std.specs.Prelude.{slice_index_or, slice_set}
-use Rattle.std.specs.List.{filter}
+use Rattle.std.specs.List.{All, filter}
 use Rattle.std.specs.Slice.Scan.{HoldsNowhere}
+use Rattle.std.proofs.lemmas.Bool.{cases_eq}
 use Rattle.std.proofs.lemmas.List.{drop_all, length-drop, length-map, length-take, take_all}
+use Rattle.std.proofs.lemmas.List.{get_or-set_other, get_or-set_same, length-set}
 use Rattle.std.proofs.lemmas.List.Filters.{length-filter_more}
 use Rattle.steer_base.specs.declared.filter.Filter.{Filter}
-use Rattle.accel_filter.specs.Expiry.{IsExpiredTo, is_old, kept_of}
+use Rattle.accel_filter.specs.Expiry.{IsExpiredTo, IsSeated, is_old, kept_of}
 use Rattle.accel_filter.specs.Table.{has_filter}
 
 -- a list whose first items are changed
@@ -148,3 +150,29 @@ module _ (heads flows : List ℕ) (all : List (Option Filter)) where
             ∙ sym (length-filter_more (is_old heads flows) all i None within)
             ∙ ap (λ k. length (filter (is_old heads flows) (take k all))) (sym one);
       }
+
+-- filters that are cleared name nothing that there is not
+module _ (heads flows : List ℕ) where
+  seated-kept : (o : Option Filter) (b : Bool) → IsSeated heads flows o
+      → IsSeated heads flows (cond b None o)
+  seated-kept o true seated = tt
+  seated-kept o false seated = seated
+
+  pub seated_after : (filters : List (Option Filter)) (i : ℕ) → i < length filters
+      → All (IsSeated heads flows) filters
+      → All (IsSeated heads flows)
+      (slice_set filters i (kept_of heads flows (slice_index_or filters i None)))
+  seated_after filters i within all k d lt =
+      let old : Option Filter = slice_index_or filters i None in
+      let kept : Option Filter = kept_of heads flows old in
+      elim (cases_eq k i) [
+        | inl here ↦
+            subst (IsSeated heads flows)
+            (sym (ap (λ j. slice_index_or (slice_set filters i kept) j d) here
+            ∙ get_or-set_same filters i kept d within))
+            (seated-kept old (is_old heads flows old) (all i None within))
+        | inr other ↦ (
+            let same = length-set filters i kept in
+            subst (IsSeated heads flows) (sym (get_or-set_other filters i k kept d other))
+            (all k d (omega (arith, same, lt))))
+      ]

@@ -2,10 +2,10 @@
 use Rattle.std.proofs.Common.{ℕ, ◌+◌, ◌-◌, ◌*◌, ◌^◌, ◌%◌, ◌<◌, ◌≤◌, ◌≡◌, Bool, true, false, List}
 use Rattle.std.proofs.Common.{Option, None, length, ap, sym, ◌∙◌, arith, w64, inl, inr}
 use Rattle.std.proofs.Common.{bit_and, cond}
-use mir.Val.{bool_byte}
 use Rattle.std.specs.Prelude.{◌==◌, slice_index_or, slice_set}
 use Rattle.std.specs.Int.{bit_at, bit_not, trailing_zeros}
 use Rattle.std.specs.Option.{is_some}
+use Rattle.std.specs.List.{All}
 use Rattle.std.specs.Slice.Scan.{HoldsNowhere}
 use Rattle.std.proofs.lemmas.Bool.{cases_eq, cases_lt}
 use Rattle.std.proofs.lemmas.List.{get_or-set_other, get_or_past}
@@ -13,8 +13,10 @@ use Rattle.std.proofs.lemmas.Nat.{and_le_l}
 use Rattle.std.proofs.lemmas.Nat.Bits.{bit_at-trailing_zeros, bit_at-zero, bit_at_clear_other}
 use Rattle.std.proofs.lemmas.Nat.Bits.{bit_at_clear_same}
 use Rattle.steer_base.specs.declared.filter.Filter.{Filter}
+use Rattle.accel_filter.specs.Expiry.{IsExpiredTo, IsSeated, is_old, kept_of}
 use Rattle.accel_filter.specs.Marks.{has_bit}
 use Rattle.accel_filter.specs.Table.{has_filter}
+use Rattle.accel_filter.proofs.ExpiryLemmas.{expired_next, expired_past, seated_after}
 
 -- The bits of a word that are left from one on are the filters from a base on that are set.
 pub record AreLeft (left base from : ℕ) (filters : List (Option Filter)) : Type 0 where
@@ -23,7 +25,7 @@ pub record AreLeft (left base from : ℕ) (filters : List (Option Filter)) : Typ
   pub coming : (k : ℕ) → from ≤ k → k < 64 → has_bit left k ≡ has_filter filters (base + k)
 
 -- a filter that is set is in the table
-pub is_within : (filters : List (Option Filter)) (i : ℕ) → has_filter filters i ≡ true
+is_within : (filters : List (Option Filter)) (i : ℕ) → has_filter filters i ≡ true
     → i < length filters
 is_within filters i set = elim (cases_lt i (length filters)) [
   | inl lt ↦ lt
@@ -33,10 +35,14 @@ is_within filters i set = elim (cases_lt i (length filters)) [
       ap (λ (o : Option Filter). is_some o) none in cc)
 ]
 
+cond_le : (b : Bool) → cond b 1 0 ≤ 1
+cond_le true = omega arith
+cond_le false = omega arith
+
 module _ (left base from : ℕ) (filters : List (Option Filter))
     (are : AreLeft left base from filters) where
   -- no bit is left
-  pub none_left : left ≡ 0 → HoldsNowhere (has_filter filters) (base + from) (base + 64)
+  none_left : left ≡ 0 → HoldsNowhere (has_filter filters) (base + from) (base + 64)
   none_left is k above below =
       let at : base + (k - base) ≡ k = omega (arith, above) in
       ap (has_filter filters) (sym at)
@@ -54,19 +60,19 @@ module _ (left base from : ℕ) (filters : List (Option Filter))
     low_bit : has_bit left low ≡ true
     low_bit = ap (λ b. b == 1) low_is.1
 
-    pub above_passed : from ≤ low
+    above_passed : from ≤ low
     above_passed = elim (cases_lt low from) [
       | inl below ↦ absurd (let none = are.passed low below in let one = low_bit in cc)
       | inr above ↦ above
     ]
 
     -- the lowest is a filter that is set, in the table
-    pub next_within : base + low < length filters
+    next_within : base + low < length filters
     next_within =
         is_within filters (base + low) (sym (are.coming low above_passed low_is.0) ∙ low_bit)
 
     -- none is set before it
-    pub none_before : HoldsNowhere (has_filter filters) (base + from) (base + low)
+    none_before : HoldsNowhere (has_filter filters) (base + from) (base + low)
     none_before k above below =
         let at : base + (k - base) ≡ k = omega (arith, above) in
         let small = low_is.0 in
@@ -82,7 +88,7 @@ module _ (left base from : ℕ) (filters : List (Option Filter))
         ap (λ b. b == 1) (bit_at_clear_other w64 left low low_is.0 k small other)
 
     -- and without it those past it are left
-    pub left_after : (filter : Option Filter)
+    left_after : (filter : Option Filter)
         → AreLeft rest base (low + 1) (slice_set filters (base + low) filter)
     left_after filter =
         let small = low_is.0 in
@@ -104,7 +110,7 @@ module _ (left base from : ℕ) (filters : List (Option Filter))
         }
 
     -- which makes the word smaller
-    pub smaller : rest < left
+    smaller : rest < left
     smaller = elim (cases_eq rest left) [
       | inl same ↦ absurd (
           let gone : bit_at rest low ≡ 0 = bit_at_clear_same w64 left low low_is.0 in
@@ -115,11 +121,57 @@ module _ (left base from : ℕ) (filters : List (Option Filter))
           omega (arith, below, other))
     ]
 
--- a truth value as a number
-pub flag_le : (b : Bool) → bool_byte b ≤ 1
-flag_le true = omega arith
-flag_le false = omega arith
+-- The filters of a word that a walk has passed are expired, as many as it counted; those of the bits
+-- that are left are still to come.
+abbrev pub IsWalked : List ℕ → List ℕ → ℕ → List (Option Filter) → ℕ → ℕ → List (Option Filter)
+    → Type 0
+IsWalked heads flows base old left count filters = (from : ℕ) × (count ≤ from)
+    × AreLeft left base from filters
+    × ((all : List (Option Filter)) (n : ℕ) → IsExpiredTo heads flows all base n old
+    → IsExpiredTo heads flows all (base + from) (n + count) filters)
+    × All (IsSeated heads flows) filters
 
-pub flag_is : (n k : ℕ) (b : Bool) → n + (k + bool_byte b) ≡ n + k + cond b 1 0
-flag_is n k true = omega arith
-flag_is n k false = omega arith
+module _ (heads flows : List ℕ) (base : ℕ) (old : List (Option Filter)) (left count : ℕ)
+    (filters : List (Option Filter))
+    (is : IsWalked heads flows base old left count filters) where
+  -- after the last bit all filters of the word are
+  pub walked_all : left ≡ 0 → (all : List (Option Filter)) (n : ℕ)
+      → IsExpiredTo heads flows all base n old
+      → IsExpiredTo heads flows all (base + 64) (n + count) filters
+  walked_all none all n before =
+      expired_past heads flows all filters (base + is.0) (n + count) (is.3 all n before) (base + 64)
+      (let few = is.2.few in omega (arith, few)) (none_left left base is.0 filters is.2 none)
+
+  module _ (fits : left < 2 ^ 64) (some : 0 < left) where
+    abbrev pub next : ℕ
+    next = base + low left base is.0 filters is.2 fits some
+
+    pub is_there : next < length filters
+    is_there = next_within left base is.0 filters is.2 fits some
+
+    pub is_smaller : rest left base is.0 filters is.2 fits some < left
+    is_smaller = smaller left base is.0 filters is.2 fits some
+
+    -- one more bit
+    pub walked_next : (new : List (Option Filter)) (more : ℕ)
+        → new ≡ slice_set filters next
+        (kept_of heads flows (slice_index_or filters next None))
+        → more ≡ count + cond (is_old heads flows (slice_index_or filters next None)) 1 0
+        → IsWalked heads flows base old (rest left base is.0 filters is.2 fits some) more new
+    walked_next new more state one =
+        let from = is.0 in
+        let bit : ℕ = low left base from filters is.2 fits some in
+        let past = above_passed left base from filters is.2 fits some in
+        let flag = cond_le (is_old heads flows (slice_index_or filters next None)) in (
+          bit + 1,
+          omega (arith, past, is.1, one, flag),
+          rw state (left_after left base from filters is.2 fits some _),
+          λ all n before.
+              rw state (
+              expired_next heads flows all filters next (n + count) _ _ is_there
+              (expired_past heads flows all filters (base + from) (n + count)
+              (is.3 all n before) next (omega (arith, past))
+              (none_before left base from filters is.2 fits some))
+              (omega arith) (omega (arith, one))),
+          rw state (seated_after heads flows filters next is_there is.4),
+        )

@@ -1,6 +1,6 @@
 -- The filters that an expiry of the whole table clears.
-use Rattle.std.specs.Prelude.{ℕ, ◌≡◌, Bool, false, List, Option, Some, None, ◌++◌, length, map}
-use Rattle.std.specs.Prelude.{take, drop, slice_index, if◌then◌else◌}
+use Rattle.std.specs.Prelude.{ℕ, ◌≡◌, ◌<◌, Bool, false, List, Option, Some, None, ◌++◌, length}
+use Rattle.std.specs.Prelude.{map, take, drop, slice_index, if◌then◌else◌}
 use Rattle.std.specs.List.{filter}
 use Rattle.steer_base.specs.Filters.{may_expire}
 use Rattle.steer_base.specs.declared.filter.Filter.{Filter}
@@ -15,6 +15,12 @@ is_old heads flows (Some filter) =
 -- a filter after the expiry: none if it may expire, otherwise the same
 abbrev pub kept_of : List ℕ → List ℕ → Option Filter → Option Filter
 kept_of heads flows filter = if is_old heads flows filter then None else filter
+
+-- a filter names a processor and a queue of these, if it is set
+abbrev pub IsSeated : List ℕ → List ℕ → Option Filter → Type 0
+IsSeated heads flows None = Unit {0}
+IsSeated heads flows (Some filter) =
+    (filter.cpu < length heads) × (filter.queue < length flows)
 
 -- the table during the expiry of all these filters: of those before a number n have gone
 pub record IsExpiredTo (heads flows : List ℕ) (all : List (Option Filter)) (to n : ℕ)

@@ -1,13 +1,13 @@
 //! The table of filters.
 ghost use Rattle.std.specs.Prelude.{ℕ, ◌≡◌, ◌<◌, ◌≤◌, ◌+◌, ◌*◌, IfNone, IfOk, IfSome, List, None};
-ghost use Rattle.std.specs.Prelude.{Option, length, map, slice_index, slice_index_or, slice_set};
+ghost use Rattle.std.specs.Prelude.{Option, length, map, slice_index_or, slice_set};
 ghost use Rattle.std.specs.Bool.{OnTrue, OnFalse};
 ghost use Rattle.std.specs.List.{All, filter};
 ghost use Rattle.std.specs.Slice.Scan.{HoldsNowhere};
 ghost use Rattle.steer_base.specs.HashTables.{place_in_rows};
 ghost use Rattle.steer_base.specs.declared.limits.TheConstants.{MAX_FLOW_COUNT};
 ghost use Rattle.steer_base.specs.declared.filter.Filter.{Filter};
-ghost use Rattle.accel_filter.specs.Expiry.{IsExpiredTo, is_old, kept_of};
+ghost use Rattle.accel_filter.specs.Expiry.{IsExpiredTo, IsSeated, is_old, kept_of};
 ghost use Rattle.accel_filter.specs.Next.{IsNext};
 ghost use Rattle.accel_filter.specs.Table.{filter_of, has_filter, is_over, steered, unset};
 ghost use Rattle.accel_filter.specs.declared.marks.TheConstants.{WORDS};
@@ -112,10 +112,11 @@ impl FilterTable {
     }
 
     /// Clears each filter that is set and may expire, and returns their number. `heads` has the
-    /// head of each processor, `flows` the flow count of each receive queue; where there is none it
-    /// counts as 0. Takes a step for each set filter, and one for every 64 filters.
+    /// head of each processor, `flows` the flow count of each receive queue. Takes a step for each
+    /// set filter, and one for every 64 filters.
     pub fn expire_all(&mut self, heads: &[u32], flows: &[u32]) -> u32
         requires few { All (λ count. count ≤ MAX_FLOW_COUNT) flows.now }
+        requires seated { All (IsSeated heads.now flows.now) self.old }
         ensures cleared { self.new ≡ map (kept_of heads.now flows.now) self.old }
         ensures count { result ≡ length (filter (is_old heads.now flows.now) self.old) }
     {
@@ -130,17 +131,21 @@ impl FilterTable {
     fn expire_word(&mut self, place: u32, heads: &[u32], flows: &[u32]) -> u32
         requires place { place < WORDS }
         requires few { All (λ count. count ≤ MAX_FLOW_COUNT) flows.now }
+        requires seated { All (IsSeated heads.now flows.now) self.old }
         ensures walked { (all : List (Option Filter)) (n : ℕ)
             → IsExpiredTo heads.now flows.now all (64 * place) n self.old
             → IsExpiredTo heads.now flows.now all (64 * place + 64) (n + result) self.new }
         ensures few { result ≤ 64 }
+        ensures seated { All (IsSeated heads.now flows.now) self.new }
     {
         let mut count = 0;
         let mut left = self.set.word(place);
         while left != 0 {
             let bit = left.trailing_zeros();
             left &= !(1 << bit);
-            count += self.expire_by(64 * place + bit, heads, flows) as u32;
+            if self.expire_by(64 * place + bit, heads, flows) {
+                count += 1;
+            }
         }
         count
     }
@@ -157,6 +162,7 @@ impl FilterTable {
     fn expire_by(&mut self, i: u32, heads: &[u32], flows: &[u32]) -> bool
         requires place { i < length self.old }
         requires few { All (λ count. count ≤ MAX_FLOW_COUNT) flows.now }
+        requires seated { IsSeated heads.now flows.now (slice_index_or self.old i None) }
         ensures answer { result ≡ is_old heads.now flows.now (slice_index_or self.old i None) }
         ensures state { self.new ≡ slice_set self.old i
             (kept_of heads.now flows.now (slice_index_or self.old i None)) }
@@ -164,8 +170,8 @@ impl FilterTable {
         let Some(filter) = self.filters[i as usize] else {
             return false;
         };
-        let head = number_at(heads, filter.cpu.0);
-        let entries = number_at(flows, filter.queue.0);
+        let head = heads[filter.cpu.0 as usize];
+        let entries = flows[filter.queue.0 as usize];
         self.expire(i, head, entries)
     }
 
@@ -186,15 +192,5 @@ impl FilterTable {
         ensures within { IfSome result (λ place. place < length self.now) }
     {
         place_of_hash(Some(hash), self.count()).map(|place| place as usize)
-    }
-}
-
-// The number of a place, and 0 where there is none.
-fn number_at(numbers: &[u32], place: u8) -> u32
-    ensures { result ≡ slice_index numbers.now place }
-{
-    match numbers.get(place as usize) {
-        Some(number) => *number,
-        None => 0,
     }
 }

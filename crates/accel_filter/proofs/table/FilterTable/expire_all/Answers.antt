@@ -9,4 +9,5 @@ loop-place-preserved c =
     record {
       few = omega (arith, few, at.invariant.few);
       walked = rw next (c.expire_word-count.ensures.walked _ at.count at.invariant.walked);
+      seated = c.expire_word-count.ensures.seated;
     }
