@@ -1,5 +1,5 @@
 //! The JSON value of a text, and the name of what is wrong with it.
-ghost use Rattle.std.specs.Prelude.{◌≡◌, ◌==◌, count_by, drop, nat_lt, Err};
+ghost use Rattle.std.specs.Prelude.{◌≡◌, ◌==◌, ◌||◌, count_by, drop, nat_lt, Err};
 ghost use Rattle.serde_json.specs.View.{view};
 ghost use Rattle.plan_reader.specs.Faults.{GivesAs};
 ghost use Rattle.plan_reader.specs.PlanTexts.{IsNamedOutside, json_of, value_of};
@@ -12,16 +12,22 @@ use serde_json::Value;
 use std::alloc::Global;
 use steer_base::List;
 
-/// The most opening braces of a text whose JSON value is made. In memory an object takes up to
-/// 820 bytes, so that no value takes much more than 2 GB.
-const MOST_BRACES: usize = 2_500_000;
+/// The most opening brackets, of objects and arrays, of a text whose JSON value is made. An object
+/// of one key takes some 940 bytes of memory, and one of 16 keys 3,500, so that the value of a text
+/// of 16 MiB takes less than 1.2 GB.
+const MOST_OPENING_BRACKETS: usize = 800_000;
 
-/// Whether a text may have so many objects that its JSON value isn't made. No text of a plan has:
-/// there are at most 82 objects in one, and no text of rules: there are at most 4,097.
-fn has_too_many_objects(bytes: &[u8]) -> bool
-    ensures { result ≡ nat_lt 2500000 (count_by (λ byte. byte == 123) bytes.now) }
+/// Whether a text may have so many objects and arrays that its JSON value isn't made. A plan needs
+/// at most 168 of them, and rules at most 4,098.
+fn has_too_many_brackets(bytes: &[u8]) -> bool
+    ensures { result
+        ≡ nat_lt 800000 (count_by (λ byte. byte == 123 || byte == 91) bytes.now) }
 {
-    bytes.iter().filter(|byte| **byte == b'{').count() > MOST_BRACES
+    bytes
+        .iter()
+        .filter(|byte| **byte == b'{' || **byte == b'[')
+        .count()
+        > MOST_OPENING_BRACKETS
 }
 
 /// The JSON value of bytes.
@@ -39,12 +45,12 @@ fn value_of(alloc: Global, bytes: &[u8]) -> Result<Value, Refusal>
     }
 }
 
-/// The JSON value of bytes (RFC 8259), or `Cause::NotJson`. A text with more than `MOST_BRACES`
-/// opening braces is refused as if memory had run out, before its value is made.
+/// The JSON value of bytes (RFC 8259), or `Cause::NotJson`. A text with more opening brackets than
+/// `MOST_OPENING_BRACKETS` is refused as if memory had run out, before its value is made.
 pub fn bounded_value(alloc: Global, bytes: &[u8]) -> Result<Value, Refusal>
     ensures { GivesAs view result (json_of (value_of bytes.now)) }
 {
-    if has_too_many_objects(bytes) {
+    if has_too_many_brackets(bytes) {
         return Err(Refusal::Memory);
     }
     value_of(alloc, bytes)
