@@ -1,4 +1,4 @@
-use Rattle.std.proofs.Common.{◌≡◌, ◌<◌, ◌∙◌, List, [], ◌∷◌, ◌++◌, length, take, ap, sym, arith}
+use Rattle.std.proofs.Common.{◌<◌, ◌∙◌, [], ◌∷◌, ◌++◌, length, take, ap, sym, arith}
 use Rattle.std.proofs.lemmas.List.{take_more, take_more_set}
 use Rattle.steer_base.specs.Sets.{members}
 use Rattle.steer_base.proofs.FirstLemmas.{members-here, members-left, members-next}
