@@ -1,10 +1,10 @@
 -- The values of a line are read one after the other, and the words before them are stepped over.
-use Rattle.std.proofs.Common.{ℕ, zero, suc, min, ◌≡◌, ◌≢◌, ◌≤◌, ◌<◌, ◌+◌, ◌-◌, ◌++◌, ◌⊎◌, List, []}
-use Rattle.std.proofs.Common.{◌∷◌, length, take, drop, map, refl, ap, ◌∙◌, sym, subst, arith, get_or}
-use Rattle.std.proofs.Common.{append_assoc, append-nil, inl, inr}
+use Rattle.std.proofs.Common.{ℕ, zero, suc, min, ◌≡◌, ◌≤◌, ◌+◌, ◌-◌, ◌++◌, ◌⊎◌, List, []}
+use Rattle.std.proofs.Common.{◌∷◌, length, drop, map, refl, ap, ◌∙◌, sym, subst, arith, get_or}
+use Rattle.std.proofs.Common.{append_assoc, inl, inr}
 use Rattle.std.proofs.lemmas.List.{length-append, length-drop, length-map}
 use Rattle.std.specs.Prelude.{slice_index_or}
-use Rattle.report.specs.Texts.{AreFields, IsField, further}
+use Rattle.report.specs.Texts.{AreFields, further}
 use Rattle.report_reader.specs.Ends.{Going, IsEnd}
 use Rattle.report_reader.specs.Values.{HasSteps, values_of}
 use Rattle.report_reader.proofs.EndsLemmas.{Piece, follows, going-last, going-next, parts-on}
@@ -136,8 +136,7 @@ module _ (bytes : List ℕ) (from end : ℕ) (steps : List ℕ) (done wanted : L
       → (done ++ (Piece bytes from end ∷ []) ≡ wanted) × (drop (end + 1) bytes ≡ rest)
   value-last e =
       let l = going-last bytes from end [] (v.value ∷ v.more) rest is v.line e in
-      let none : v.more ≡ [] = sym (tail-same _ _ _ _ l.0) in
-      (
+      let none : v.more ≡ [] = sym (tail-same _ _ _ _ l.0) in (
         ap (λ x. done ++ (x ∷ [])) (head-same _ _ _ _ l.0)
             ∙ ap (λ xs. done ++ (v.value ∷ xs)) (sym (last-value steps v.more v.has none))
             ∙ v.joins,

@@ -57,7 +57,7 @@ loop-next-preserved g c = record {
       let same = (bytes_eq-Decides c.first_field.result.now c.word.result.now).0
       (sym c.eq-is_own.ensures ∙ c.if-not-is_own.false) in
       let n = section-goes _ _ _ _ _ _ _ _ o _ c.first_field.ensures c.steps.result.now
-    g.S.Section.gives c.steps.ensures _ _
+      g.S.Section.gives c.steps.ensures _ _
       c.in_ok-after.ensures.values c.in_ok-after.ensures.next
       (c.loop-next.invariant.reading items rows rest s m o t) (same ∙ c.word.ensures) in
       subst (λ done. Left g.S.Section.first g.S.Section.least g.S.Section.shows c.args.bytes.now

@@ -1,4 +1,4 @@
-use Rattle.std.proofs.Common.{rules, ◌+◌, length, sym, ◌∙◌, arith}
+use Rattle.std.proofs.Common.{rules, ◌+◌, sym, ◌∙◌, arith}
 use Rattle.std.proofs.Math.ListN.{drop_of_length-le}
 use Rattle.report_reader.proofs.EndsLemmas.{going-in, going-none, pushed-view}
 use Rattle.report_reader.proofs.StepsLemmas.{full-values, step-over, value-last, value-next}
