@@ -122,7 +122,8 @@ Piece bytes start end = take (end - start) (drop start bytes)
 pub piece-by : (bytes : List ℕ) (start end : ℕ) (rest next : List ℕ) (more : List (List ℕ))
     → IsEnd bytes start end → drop start bytes ≡ next ++ (further more ++ rest) → IsField next
     → Piece bytes start end ≡ next
-piece-by bytes start end rest next [] is t f = piece-is bytes next rest start end 10 is t f (inr refl)
+piece-by bytes start end rest next [] is t f =
+    piece-is bytes next rest start end 10 is t f (inr refl)
 piece-by bytes start end rest next (g ∷ gs) is t f =
     piece-is bytes next ((g ++ further gs) ++ rest) start end 32 is t f (inl refl)
 

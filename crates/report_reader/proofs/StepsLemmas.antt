@@ -131,37 +131,39 @@ tail-same : (x y : List ℕ) (xs ys : List (List ℕ)) → x ∷ xs ≡ y ∷ ys
 tail-same x y xs ys e = ap (drop 1) e
 
 module _ (bytes : List ℕ) (from end : ℕ) (steps : List ℕ) (done wanted : List (List ℕ))
-    (rest : List ℕ) (is : IsEnd bytes from end) (v : AtValue bytes from steps done wanted rest) where
-  pub value-last : get_or bytes end 0 ≡ 10
-      → (done ++ (Piece bytes from end ∷ []) ≡ wanted) × (drop (end + 1) bytes ≡ rest)
-  value-last e =
-      let l = going-last bytes from end [] (v.value ∷ v.more) rest is v.line e in
-      let none : v.more ≡ [] = sym (tail-same _ _ _ _ l.0) in (
-        ap (λ x. done ++ (x ∷ [])) (head-same _ _ _ _ l.0)
-            ∙ ap (λ xs. done ++ (v.value ∷ xs)) (sym (last-value steps v.more v.has none))
-            ∙ v.joins,
-        l.1,
-      )
+    (rest : List ℕ) (is : IsEnd bytes from end) (v : AtValue bytes from steps done wanted rest)
+  where
+    pub value-last : get_or bytes end 0 ≡ 10
+        → (done ++ (Piece bytes from end ∷ []) ≡ wanted) × (drop (end + 1) bytes ≡ rest)
+    value-last e =
+        let l = going-last bytes from end [] (v.value ∷ v.more) rest is v.line e in
+        let none : v.more ≡ [] = sym (tail-same _ _ _ _ l.0) in (
+          ap (λ x. done ++ (x ∷ [])) (head-same _ _ _ _ l.0)
+              ∙ ap (λ xs. done ++ (v.value ∷ xs)) (sym (last-value steps v.more v.has none))
+              ∙ v.joins,
+          l.1,
+        )
 
-  pub value-next : (get_or bytes end 0 ≡ 10 → ⊥)
-      → Stepping bytes (end + 1) steps (done ++ (Piece bytes from end ∷ [])) wanted rest
-  value-next e =
-      let g = going-next bytes from end [] (v.value ∷ v.more) rest is v.line e in
-      let more : g.next ∷ g.more ≡ v.more = tail-same _ _ _ _ g.parts in
-      record {
-        left = v.more;
-        line = record {
-          next = g.next;
-          more = g.more;
-          parts = more;
-          text = g.text;
-          is_field = g.is_field;
-          are_fields = g.are_fields;
-        };
-        has = v.has;
-        joins = parts-on done (Piece bytes from end) (values_of steps v.more)
-            ∙ ap (λ x. done ++ (x ∷ values_of steps v.more)) (head-same _ _ _ _ g.parts) ∙ v.joins;
-      }
+    pub value-next : (get_or bytes end 0 ≡ 10 → ⊥)
+        → Stepping bytes (end + 1) steps (done ++ (Piece bytes from end ∷ [])) wanted rest
+    value-next e =
+        let g = going-next bytes from end [] (v.value ∷ v.more) rest is v.line e in
+        let more : g.next ∷ g.more ≡ v.more = tail-same _ _ _ _ g.parts in
+        record {
+          left = v.more;
+          line = record {
+            next = g.next;
+            more = g.more;
+            parts = more;
+            text = g.text;
+            is_field = g.is_field;
+            are_fields = g.are_fields;
+          };
+          has = v.has;
+          joins = parts-on done (Piece bytes from end) (values_of steps v.more)
+              ∙ ap (λ x. done ++ (x ∷ values_of steps v.more)) (head-same _ _ _ _ g.parts)
+              ∙ v.joins;
+        }
 
 -- the values that were found are those of a list
 pub value-pushed : {A : Type 0} (f : A → List ℕ) (bytes : List ℕ) (next : ℕ) (steps : List ℕ)
@@ -185,8 +187,8 @@ few-values (n ∷ steps) (w ∷ []) = omega arith
 few-values (n ∷ steps) (w ∷ v ∷ more) = let i = few-values steps more in omega (arith, i)
 
 -- a line that goes on has more values than those that were found
-pub full-values : {A : Type 0} (f : A → List ℕ) (bytes : List ℕ) (from : ℕ) (steps all-steps : List ℕ)
-    (done : List A) (all : List (List ℕ)) (rest : List ℕ)
+pub full-values : {A : Type 0} (f : A → List ℕ) (bytes : List ℕ) (from : ℕ)
+    (steps all-steps : List ℕ) (done : List A) (all : List (List ℕ)) (rest : List ℕ)
     → AtValue bytes from steps (map f done) (values_of all-steps all) rest → length all ≤ 40
     → length done ≡ 40 → ⊥
 full-values f bytes from steps all-steps done all rest v few n =
