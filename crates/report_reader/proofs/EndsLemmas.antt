@@ -95,8 +95,8 @@ follows bytes next tail start end s e t =
     drop-plus start (suc (length next)) (end + 1) bytes (omega (arith, e))
     ∙ ap (drop (suc (length next))) t ∙ behind next tail s
 
-pub parts-on : (done : List (List ℕ)) (x : List ℕ) (more : List (List ℕ)) → (done ++ (x ∷ [])) ++ more ≡
-    done ++ (x ∷ more)
+pub parts-on : (done : List (List ℕ)) (x : List ℕ) (more : List (List ℕ))
+    → (done ++ (x ∷ [])) ++ more ≡ done ++ (x ∷ more)
 parts-on [] x more = refl
 parts-on (y ∷ done) x more = ap (λ l. y ∷ l) (parts-on done x more)
 
