@@ -1,18 +1,17 @@
 -- What is said of the report of a replay.
-use Rattle.std.proofs.Common.{ℕ, ◌≡◌, ◌≢◌, ◌⊎◌, ◌<◌, ◌^◌, zero, suc, Bool, List, [], ◌∷◌, ◌++◌}
+use Rattle.std.proofs.Common.{ℕ, ◌≡◌, ◌≢◌, ◌⊎◌, ◌<◌, zero, suc, Bool, List, [], ◌∷◌, ◌++◌}
 use Rattle.std.proofs.Common.{Option, Some, None, get_or, length, refl, ap, ◌∙◌, sym, subst}
 use Rattle.std.proofs.Common.{arith, inl, inr}
 use Rattle.std.specs.Prelude.{slice_get}
 use Rattle.std.specs.List.{AllPass}
 use Rattle.std.proofs.lemmas.Bool.{cases_lt}
 use Rattle.std.proofs.lemmas.List.{get_or_append_left, length-append}
-use Rattle.good_check.specs.Faults.{FirstFault, HasFirstFault, HasNoFault}
+use Rattle.good_check.specs.Faults.{FirstFault, HasFirstFault}
 use Rattle.history.specs.Lists.{list_at}
-use Rattle.history.specs.declared.commanded.Commanded.{Commanded}
 use Rattle.history.specs.declared.history.History.{History}
 use Rattle.history.specs.declared.sock_write.SockWrite.{SockWrite}
 use Rattle.plan_reader.specs.Plans.{sizes_of}
-use Rattle.plan_reader.specs.Ranges.{commands_of, step_is_within}
+use Rattle.plan_reader.specs.Ranges.{step_is_within}
 use Rattle.report.specs.Laws.{HasOneHistory}
 use Rattle.steer_base.specs.Choices.{class_of}
 use Rattle.steer_base.specs.Counters.{rounded_up}
@@ -22,11 +21,11 @@ use Rattle.steer_invariant.proofs.Invariant.StepLemmas.{plan_steps_within}
 use Rattle.steer_invariant.specs.InvariantLaws.{ReplaysAreReportable}
 use Rattle.steer_model.specs.Good.Commands.{AreGiven, CommandsAreGiven}
 use Rattle.steer_model.specs.Good.GoodHistory.{Clause}
-use Rattle.steer_model.specs.Good.Inputs.{Input, WasDone, setup_in}
+use Rattle.steer_model.specs.Good.Inputs.{Input, setup_in}
 use Rattle.steer_model.specs.Good.Writes.{AreWrites, WritesAreRight}
 use Rattle.steer_model.specs.State.Machine.{history_of}
 use Rattle.steer_model.specs.State.Setup.{packet_hash}
-use Rattle.steer_model.specs.State.Start.{new_machine, replayed, steps_of}
+use Rattle.steer_model.specs.State.Start.{new_machine, replayed}
 use Rattle.steer_model.specs.Steps.CompoundSteps.{after}
 use Rattle.steer_properties.specs.Commands.Answered.{IsWriteFor, WritesAreMade}
 use Rattle.steer_properties.specs.Commands.GivenOnce.{ReplaysGiveOnce}
@@ -37,9 +36,7 @@ use Rattle.steer_properties.specs.Histories.Sizes.{IsOfItsInput}
 use Rattle.report_verdict.specs.Replays.{EndsWithSweep, IsReportOfReplay, MayBeSaid}
 use Rattle.report_verdict.specs.Replays.{ReplaysAreJudged, SweptReplaysAreGood}
 use Rattle.report_verdict.specs.Replays.{SweptReplaysAreJudged, UnrecordedReplaysAreGood}
-use Rattle.report_verdict.specs.Replays.{WritesItsInboxes}
-use Rattle.report_verdict.specs.Verdicts.{IsReportFor, IsVerdict, commands_in}
-use Rattle.report_verdict.specs.declared.verdict.Verdict.{Verdict}
+use Rattle.report_verdict.specs.Verdicts.{IsReportFor, commands_in}
 use Rattle.report_verdict.specs.declared.verdict.Verdict.TheVariants as verdict
 use Rattle.report_verdict.proofs.NoCommandLemmas.{choices_alone, replies_alone, wants_alone}
 use Rattle.report_verdict.proofs.VerdictLemmas.{same_history}

@@ -1,5 +1,5 @@
 -- At most one verdict stands, and what is said to be good is good.
-use Rattle.std.proofs.Common.{ℕ, ◌≡◌, ◌≤◌, ◌<◌, ◌^◌, List, [], length, refl, ap, ◌∙◌, sym, subst}
+use Rattle.std.proofs.Common.{ℕ, ◌≡◌, ◌≤◌, ◌<◌, ◌^◌, List, length, refl, ap, ◌∙◌, sym, subst}
 use Rattle.std.proofs.Common.{arith, inl, inr}
 use Rattle.std.proofs.lemmas.Bool.{cases_lt}
 use Rattle.good_check.specs.Faults.{FirstFault, HasFirstFault, HasNoFault}

@@ -65,15 +65,12 @@ use Rattle.run_coupling.specs.Coupling.OwnTables.{IsByTable, table_before}
 use Rattle.run_coupling.proofs.Runs.CodeLemmas.{word-says}
 use Rattle.run_words.specs.Lists.{oldest_first}
 use Rattle.run_crew.specs.ApplicationCoupling.{AreMadeFor, ApplicationsAreCoupled}
-use Rattle.run_crew.specs.ApplicationCoupling.{IsApplicationCoupled}
-use Rattle.run_crew.specs.ApplicationCoupling.{maps_seen}
-use Rattle.run_crew.specs.ApplicationCoupling.{words_of_reply}
+use Rattle.run_crew.specs.ApplicationCoupling.{IsApplicationCoupled, maps_seen, words_of_reply}
 use Rattle.run_workers.specs.Records.Growth.{held}
 use Rattle.run_workers.specs.Records.Replying.{EachReplied, HasWrittenAll, HasCome, HasFound}
-use Rattle.run_workers.specs.Records.Replying.{HasReadInside}
-use Rattle.run_workers.specs.Records.Replying.{HasStood, IsReplied, IsReplying, HasWritten}
-use Rattle.run_workers.specs.Records.Replying.{RepliedTurn}
-use Rattle.run_workers.specs.Records.Replying.{replies_in, replied_table, taken_by, reply_turns}
+use Rattle.run_workers.specs.Records.Replying.{HasReadInside, HasStood, IsReplied, IsReplying}
+use Rattle.run_workers.specs.Records.Replying.{HasWritten, RepliedTurn, replies_in, replied_table}
+use Rattle.run_workers.specs.Records.Replying.{taken_by, reply_turns}
 use Rattle.run_workers.specs.Records.Words.{Note}
 use Rattle.run_workers.proofs.Records.ListLemmas.{append_none}
 use Rattle.run_crew.proofs.ChoiceFunctions.{at-place}

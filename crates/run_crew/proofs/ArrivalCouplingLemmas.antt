@@ -3,13 +3,11 @@ use Rattle.std.proofs.Common.{◌≡◌, ◌⊎◌, inl, inr, ℕ, zero, suc, �
 use Rattle.std.proofs.Common.{List, [], ◌∷◌, ◌++◌, Option, Some, None, length, map, All, ◌+◌, ◌≤◌}
 use Rattle.std.proofs.Common.{refl, sym, ap, subst, ◌∙◌, arith, leb-false}
 use Rattle.std.specs.Prelude.{◌||◌, ◌-◌, ◌/◌, ◌^◌, drop, if◌then◌else◌, nat_le, slice_get}
-use Rattle.std.specs.Prelude.{slice_index}
-use Rattle.std.specs.Prelude.{unwrap_or}
+use Rattle.std.specs.Prelude.{slice_index, unwrap_or}
 use Rattle.std.specs.List.{Contains, range_with_len}
 use Rattle.std.proofs.lemmas.List.{length-map}
 use Rattle.std.proofs.lemmas.List.FromFn.{length-range_with_len}
-use Rattle.std.proofs.lemmas.List.Elements.{All-nil, Contains-append_left, Contains-push}
-use Rattle.std.proofs.lemmas.List.Elements.{All-push}
+use Rattle.std.proofs.lemmas.List.Elements.{All-nil, Contains-append_left, Contains-push, All-push}
 use Rattle.steer_base.specs.Arrivals.{filter_place, route, table_place}
 use Rattle.steer_base.specs.declared.filter.Filter.{Filter}
 use Rattle.rss_table.specs.Redirection.{Redirection, queue_of}
@@ -42,10 +40,8 @@ use Rattle.run_coupling.specs.Coupling.Marks.{LoadsFilter}
 use Rattle.run_crew.proofs.TurnListLemmas.{has_number, nth-oldest, oldest-nth}
 use Rattle.run_crew.proofs.WireTurnLemmas.{found-filter, id-at, look_in, no-clear, told}
 use Rattle.run_crew.specs.ArrivalLaws.{IsInTurn, WireKeepsCoupling}
-use Rattle.run_crew.specs.Routes.{ByFilter, Leads, LooksUpFilter}
-use Rattle.run_words.specs.HintViews.{HintView}
-use Rattle.run_crew.specs.Routes.{Routes, announcement}
-use Rattle.run_words.specs.HintViews.{after_step}
+use Rattle.run_crew.specs.Routes.{ByFilter, Leads, LooksUpFilter, Routes, announcement}
+use Rattle.run_words.specs.HintViews.{HintView, after_step}
 
 -- ---- members of a list of steps
 

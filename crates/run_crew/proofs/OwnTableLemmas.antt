@@ -1,11 +1,9 @@
 -- The table that a poller keeps is the one that its turns give.
-use Rattle.std.proofs.Common.{◌≡◌, ◌≢◌, ℕ, suc, ◌≤◌}
-use Rattle.std.proofs.Common.{◌==◌, Bool, true, false, List, [], ◌∷◌, ◌++◌, Option, None}
-use Rattle.std.proofs.Common.{Some, if◌then◌else◌, length, map, drop}
-use Rattle.std.proofs.Common.{sym, refl, ap, ◌∙◌, arith, append_assoc}
+use Rattle.std.proofs.Common.{◌≡◌, ◌≢◌, ℕ, suc, ◌≤◌, ◌==◌, Bool, true, false, List, [], ◌∷◌, ◌++◌}
+use Rattle.std.proofs.Common.{Option, None, Some, if◌then◌else◌, length, map, drop, sym, refl, ap}
+use Rattle.std.proofs.Common.{◌∙◌, arith, append_assoc}
 use Rattle.std.specs.List.{fold}
-use Rattle.std.proofs.lemmas.List.{drop_all, length-map}
-use Rattle.std.proofs.lemmas.List.{length-set}
+use Rattle.std.proofs.lemmas.List.{drop_all, length-map, length-set}
 use Rattle.steer_base.specs.Counters.{rounded_up}
 use Rattle.steer_base.specs.declared.choice.Choice.{Choice}
 use Rattle.steer_base.specs.declared.put.Put.{Put}
@@ -23,8 +21,7 @@ use Rattle.run_words.specs.Values.{flows_in}
 use Rattle.run_workers.specs.Hands.Pollers.{as_told, refreshed}
 use Rattle.run_words.specs.Lists.{oldest_first}
 use Rattle.run_workers.specs.Records.Polling.{AllPolled, IsPolled, PolledTurn, last_flows}
-use Rattle.run_workers.specs.Records.Polling.{polled_table}
-use Rattle.run_workers.specs.Records.Polling.{table_of_turn, turns_in}
+use Rattle.run_workers.specs.Records.Polling.{polled_table, table_of_turn, turns_in}
 use Rattle.run_crew.proofs.TurnListLemmas.{length_turned, since_more}
 
 -- ---- a turn among all

@@ -46,12 +46,10 @@ use Rattle.run_coupling.specs.Coupling.OwnTables.{IsByTable, class_by, goal_by, 
 use Rattle.run_coupling.specs.Coupling.Queues.{FitReceiveWords}
 use Rattle.run_words.specs.Lists.{oldest_first}
 use Rattle.run_workers.specs.Records.Polling.{AllPolled, IsLastLook, IsPolled, IsPolling}
-use Rattle.run_workers.specs.Records.Polling.{PolledTurn, table_of_turn}
-use Rattle.run_workers.specs.Records.Polling.{turns_in}
+use Rattle.run_workers.specs.Records.Polling.{PolledTurn, table_of_turn, turns_in}
 use Rattle.run_workers.specs.Records.Words.{Mark}
 use Rattle.run_crew.specs.QueueCoupling.{IsMarkedBy, IsQueueCoupled, PollersAreCoupled, words_read}
-use Rattle.run_crew.specs.QueueCoupling.{words_seen}
-use Rattle.run_crew.specs.QueueCoupling.{words_of_turn}
+use Rattle.run_crew.specs.QueueCoupling.{words_seen, words_of_turn}
 use Rattle.run_crew.proofs.OwnTableLemmas.{all_at, fold_rows, table_is}
 use Rattle.run_crew.proofs.RuleLemmas.{choice_looked, coded_look, goal, own_want, rule_looks}
 use Rattle.run_crew.proofs.TurnListLemmas.{TurnAt, front, nth-map, turn_at}

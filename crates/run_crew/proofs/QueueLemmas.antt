@@ -17,8 +17,7 @@ use Rattle.steer_model.specs.Good.Inputs.{Input, setup_in}
 use Rattle.run_coupling.specs.Laws.SharedCodes.{AreShared}
 use Rattle.run_coupling.specs.Coupling.Hints.{HintCodes}
 use Rattle.run_workers.specs.Records.Polling.{IsPolling}
-use Rattle.run_crew.specs.QueueCoupling.{IsMarkedBy, IsQueueCoupled, PollersAreCoupled}
-use Rattle.run_crew.specs.QueueCoupling.{words_seen}
+use Rattle.run_crew.specs.QueueCoupling.{IsMarkedBy, IsQueueCoupled, PollersAreCoupled, words_seen}
 use Rattle.run_workers.specs.Actors.{Each}
 use Rattle.run_workers.specs.Stages.{StageView}
 use Rattle.run_crew.specs.Crews.{IsPlayed, pollers_of}
@@ -26,8 +25,7 @@ use Rattle.run_crew.specs.declared.seated.Seated.{Seated}
 use Rattle.run_crew.specs.QueueLaws.{QueuesAreCoupled, QueuesKeepCoupling, ReceiveEnds}
 use Rattle.run_crew.specs.Executions.{SeatTurns, queue_execution}
 use Rattle.run_crew.proofs.ChoiceFunctions.{chosen}
-use Rattle.run_crew.proofs.QueueTurnLemmas.{board-turns, has, home-count, keeps-poller}
-use Rattle.run_crew.proofs.QueueTurnLemmas.{queue-is}
+use Rattle.run_crew.proofs.QueueTurnLemmas.{board-turns, has, home-count, keeps-poller, queue-is}
 use Rattle.run_crew.proofs.ExecutionLemmas.{keep-turns, none-beyond}
 
 module _ (law : PollersAreCoupled) (i : Input) (h : History) (t : StageView) (crew : List Seated)

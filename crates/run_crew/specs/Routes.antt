@@ -1,8 +1,7 @@
 -- What the wire does at its hint words and its rings: each packet comes to the receive queue of a
 -- hardware filter, or else of an entry of the redirection table (kernel scaling chapter, sections
 -- RSS and accelerated RFS).
-use Rattle.std.specs.Prelude.{◌≡◌, ℕ, List, [], ◌∷◌, Option, Some, None, length}
-use Rattle.std.specs.Prelude.{unwrap_or}
+use Rattle.std.specs.Prelude.{◌≡◌, ℕ, List, [], ◌∷◌, Option, Some, None, length, unwrap_or}
 use Rattle.std.specs.List.{Contains}
 use Rattle.steer_base.specs.Arrivals.{filter_place, route, table_place}
 use Rattle.steer_base.specs.declared.filter.Filter.{Filter}

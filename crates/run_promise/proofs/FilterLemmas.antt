@@ -1,32 +1,18 @@
 -- A filter by which a packet came was set by the move of a packet that arrived before it: the wire
 -- looked for the filter before it announced that packet or a later one.
 use Rattle.std.proofs.Common.{◌≡◌, inl, inr, ℕ, ◌<◌, ◌≤◌, List, Some}
-use Rattle.std.proofs.Common.{length, refl, ap, ◌∙◌, subst, arith}
-use Rattle.std.specs.Prelude.{is_some, slice_get}
+use Rattle.std.proofs.Common.{length, ap, subst, arith}
 use Rattle.std.proofs.lemmas.Bool.{cases_lt}
-use Rattle.steer_base.specs.Arrivals.{filter_place}
-use Rattle.steer_base.specs.Entries.{place_in}
-use Rattle.steer_base.specs.declared.put.Put.{Put}
-use Rattle.steer_base.specs.declared.put.Put.TheVariants.{At}
-use Rattle.dev_flow_table.specs.Folds.{IsPutAt}
 use Rattle.hint_words.specs.declared.step.HintStep.TheVariants.{Store}
-use Rattle.history.specs.Finding.{is_in}
-use Rattle.history.specs.Lists.{lane_at}
 use Rattle.history.specs.declared.history.History.{History}
-use Rattle.history.specs.declared.lane_list.LaneList.{LaneList}
 use Rattle.hop_rule.specs.Moments.{nth_step}
 use Rattle.hop_rule.specs.declared.step.BoardStep.{BoardStep}
 use Rattle.board_api.specs.Closings.Closings.{own_in}
-use Rattle.hop_delivery.specs.Closings.FlowLaw.{accepted_left}
 use Rattle.hop_delivery.specs.Orders.Runs.{turns_of}
 use Rattle.hop_delivery.specs.Orders.Turns.{Turn}
-use Rattle.hop_delivery.proofs.Closings.PutPlaceLemmas.{turns_put_once}
 use Rattle.steer_model.specs.Good.Arrivals.{FilterFrom}
 use Rattle.steer_model.specs.Good.Inputs.{Input}
-use Rattle.run_coupling.specs.Coupling.Hints.{WasFiltered}
 use Rattle.run_coupling.specs.Coupling.Runs.{IsRun}
-use Rattle.run_coupling.proofs.Runs.PutTurnLemmas.{put-of}
-use Rattle.run_coupling.proofs.Runs.TurnListLemmas.{turn-chosen}
 use Rattle.run_goodness.proofs.Runs.HintLemmas.{class-below, filter-of}
 use Rattle.run_goodness.proofs.Runs.ReceiveLemmas as receives
 use Rattle.run_goodness.proofs.Runs.RunLemmas as runs

@@ -1,6 +1,5 @@
 -- A new worker, and one that knows the arrivals.
-use Rattle.std.proofs.Common.{◌≡◌, ℕ, List, [], None, refl, sym, subst}
-use Rattle.std.proofs.Common.{length}
+use Rattle.std.proofs.Common.{◌≡◌, ℕ, List, [], None, refl, sym, subst, length}
 use Rattle.std.proofs.lemmas.List.Elements.{All-nil}
 use Rattle.linearization.specs.Orders.{StepBy}
 use Rattle.history.specs.declared.arrival.Arrival.{Arrival}

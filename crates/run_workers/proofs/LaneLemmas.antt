@@ -18,8 +18,7 @@ use Rattle.run_workers.specs.Actors.{Each, IsForeign, KeepsDrain}
 use Rattle.run_workers.proofs.EachLemmas.{actors_differ, differs, each_same, each_set, turns_stay}
 use Rattle.run_workers.proofs.KeepLemmas.{KeepsBoard}
 use Rattle.run_workers.proofs.SameLemmas.{SameSeat}
-use Rattle.run_workers.proofs.SeatLemmas.{between_calls, serves_move, serves_open}
-use Rattle.run_workers.proofs.SeatLemmas.{serves_outside}
+use Rattle.run_workers.proofs.SeatLemmas.{between_calls, serves_move, serves_open, serves_outside}
 use Rattle.run_workers.proofs.StayLemmas.{drain_keeps, drain_stays}
 
 -- a seat that served a lane

@@ -28,8 +28,7 @@ use Rattle.run_workers.proofs.EachLemmas.{actors_differ, each_same, each_set, tu
 use Rattle.run_workers.proofs.EachLemmas.{turns_stay}
 use Rattle.run_workers.proofs.KeepLemmas.{KeepsReceive, board_calls, notes_stay, received}
 use Rattle.run_workers.proofs.KeepLemmas.{transmit_stays, works}
-use Rattle.run_workers.proofs.SameLemmas.{drops_set, homes_stay, is_same, rings_set}
-use Rattle.run_workers.proofs.SameLemmas.{seat_stays}
+use Rattle.run_workers.proofs.SameLemmas.{drops_set, homes_stay, is_same, rings_set, seat_stays}
 use Rattle.run_workers.proofs.SeatLemmas.{polls_move}
 use Rattle.run_workers.proofs.StayLemmas.{poller_stays}
 

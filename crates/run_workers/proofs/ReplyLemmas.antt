@@ -25,8 +25,7 @@ use Rattle.run_workers.specs.declared.worker.Worker.{Worker}
 use Rattle.run_workers.proofs.EachLemmas.{actors_differ, each_same, each_set, turns_of_ones}
 use Rattle.run_workers.proofs.KeepLemmas.{KeepsTransmit, board_calls, marks_stay, notes_stay}
 use Rattle.run_workers.proofs.KeepLemmas.{receive_stays, transmitted, works}
-use Rattle.run_workers.proofs.SameLemmas.{drops_stay, homes_set, is_same, rings_stay}
-use Rattle.run_workers.proofs.SameLemmas.{seat_stays}
+use Rattle.run_workers.proofs.SameLemmas.{drops_stay, homes_set, is_same, rings_stay, seat_stays}
 use Rattle.run_workers.proofs.SeatLemmas.{replies_move}
 use Rattle.run_workers.proofs.StayLemmas.{server_stays}
 

@@ -1,7 +1,6 @@
 -- A worker after one of its applications took a packet or none.
-use Rattle.std.proofs.Common.{◌≡◌, ◌≢◌, ℕ, ◌<◌, inl, inr, All, Bool, List, Some}
-use Rattle.std.proofs.Common.{refl, sym, ap, subst, ◌∙◌}
-use Rattle.std.proofs.Common.{length, length-set, slice_get, slice_set}
+use Rattle.std.proofs.Common.{◌≡◌, ◌≢◌, ℕ, ◌<◌, inl, inr, All, Bool, List, Some, refl, sym, ap}
+use Rattle.std.proofs.Common.{subst, ◌∙◌, length, length-set, slice_get, slice_set}
 use Rattle.std.proofs.lemmas.Option.{slice_get_within}
 use Rattle.linearization.specs.Orders.{StepBy}
 use Rattle.board_api.specs.Calls.Rights.{HasOpen, IsOutside}
@@ -29,10 +28,8 @@ use Rattle.run_workers.specs.declared.worker.Worker.{Worker}
 use Rattle.run_workers.proofs.EachLemmas.{actors_differ, each_same, each_set, turns_of_ones}
 use Rattle.run_workers.proofs.EachLemmas.{turns_stay}
 use Rattle.run_workers.proofs.KeepLemmas.{KeepsReceive, KeepsTransmit, board_calls, board_stays}
-use Rattle.run_workers.proofs.KeepLemmas.{marks_stay, pollers_stay, received, transmitted}
-use Rattle.run_workers.proofs.KeepLemmas.{works}
-use Rattle.run_workers.proofs.SameLemmas.{drops_stay, homes_set, is_same, rings_stay}
-use Rattle.run_workers.proofs.SameLemmas.{seat_stays}
+use Rattle.run_workers.proofs.KeepLemmas.{marks_stay, pollers_stay, received, transmitted, works}
+use Rattle.run_workers.proofs.SameLemmas.{drops_stay, homes_set, is_same, rings_stay, seat_stays}
 use Rattle.run_workers.proofs.SeatLemmas.{takes_move}
 use Rattle.run_workers.proofs.StayLemmas.{server_stays}
 

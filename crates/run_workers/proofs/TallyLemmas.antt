@@ -1,7 +1,6 @@
 -- What a worker has finished never falls, and what it has told is no more.
 use Rattle.std.proofs.Common.{◌≡◌, ◌≢◌, ◌⊎◌, inl, inr, ℕ, zero, suc, ◌+◌, ◌<◌, ◌≤◌, List, [], ◌∷◌}
-use Rattle.std.proofs.Common.{All, Some, refl, sym, ap, subst, ◌∙◌, length, arith}
-use Rattle.std.proofs.Common.{take}
+use Rattle.std.proofs.Common.{All, Some, refl, sym, ap, subst, ◌∙◌, length, arith, take}
 use Rattle.std.specs.Prelude.{slice_get}
 use Rattle.std.specs.List.{Contains, sum, sum_by}
 use Rattle.std.proofs.lemmas.Bool.{cases_eq}
@@ -26,9 +25,8 @@ use Rattle.run_workers.specs.Actors.{Each, KeepsDrain, actor_at}
 use Rattle.run_workers.specs.declared.drain.Exit.TheVariants.{Port}
 use Rattle.run_workers.specs.Records.Growth.{Grows}
 use Rattle.run_workers.specs.Stages.{StageView}
-use Rattle.run_workers.specs.Tally.{CountsOn, HasFinished, IsCounter, Loaded}
-use Rattle.run_workers.specs.Tally.{LoadedCountsHold, StoreAtMostTheirs, StoresAtMost}
-use Rattle.run_workers.specs.Tally.{dropped_by, finished_by}
+use Rattle.run_workers.specs.Tally.{CountsOn, HasFinished, IsCounter, Loaded, LoadedCountsHold}
+use Rattle.run_workers.specs.Tally.{StoreAtMostTheirs, StoresAtMost, dropped_by, finished_by}
 use Rattle.run_workers.specs.Workers.{GoesOn, IsWorking}
 use Rattle.run_workers.proofs.EachLemmas.{item_at}
 use Rattle.run_workers.proofs.Records.ListLemmas.{contains_first, contains_later}

@@ -13,8 +13,7 @@ use Rattle.pcapng_reader.specs.declared.block.Block.{Block}
 use Rattle.pcapng_reader.specs.declared.place.Place.{Place}
 use Rattle.pcapng_reader.specs.declared.section.Section.{Section}
 use Rattle.steer_model.proofs.Capture.RecordLemmas.{packets-of-records}
-use Rattle.steer_model.specs.Capture.Packets.{ArePackets, ArePacketsOfFrames}
-use Rattle.steer_model.specs.Capture.Packets.{frame_of as frame_at}
+use Rattle.steer_model.specs.Capture.Packets.{ArePackets, ArePacketsOfFrames, frame_of as frame_at}
 use Rattle.steer_base.specs.declared.packet.Packet.{Packet}
 use Rattle.steer_top.specs.Captures.{HasAnyCapture}
 

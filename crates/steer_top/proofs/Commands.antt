@@ -1,5 +1,5 @@
 -- What is true where the commands end.
-use Rattle.std.proofs.Common.{◌≡◌, ◌≢◌, ◌≤◌, ◌<◌, zero, suc, ℕ, List, [], ◌∷◌, ◌++◌, length}
+use Rattle.std.proofs.Common.{◌≡◌, ◌≤◌, ◌<◌, zero, suc, ℕ, List, [], ◌∷◌, ◌++◌, length}
 use Rattle.std.proofs.Common.{Option, Some, None, unwrap_or, inl, inr, refl, sym, ap, subst, ◌∙◌}
 use Rattle.std.proofs.Common.{arith, IfErr, IfSome, Result, Ok, Err}
 use Rattle.std.specs.Io.KnownBytes.{Keeps, Appends}
@@ -11,12 +11,12 @@ use Rattle.capture_stream.specs.Streams.{IsFaultOf}
 use Rattle.capture_stream.specs.declared.fault.StreamFault.{StreamFault}
 use Rattle.capture_stream.specs.declared.fault.StreamFault.TheVariants as stream
 use Rattle.steer_top.proofs.Tellings.{AppendsSome-kept}
-use Rattle.steer_top.specs.Files.{Accepted, Files, IsBad, IsNot, Refused, limit_of}
+use Rattle.steer_top.specs.Files.{Accepted, Files, IsBad, Refused, limit_of}
 use Rattle.steer_top.specs.Outcomes.{Writes, name_of, roles_of, file_bytes}
 use Rattle.steer_top.specs.Words.{CheckWords, CommandWords, GenWords, HashWords, PlaceWords}
 use Rattle.steer_top.specs.Words.{PlanWords}
 use Rattle.steer_top.specs.Words.CommandWords.{Check, Gen, Hash, Place, Replay, Run}
-use Rattle.steer_top.specs.Endings.{Course, Gave, NothingOut, EndsAs, EndsAt, EndsBy, EndsCommand}
+use Rattle.steer_top.specs.Endings.{Course, Gave, NothingOut, EndsAt, EndsBy, EndsCommand}
 use Rattle.steer_top.specs.Endings.{EndsAtInput, EndsUnfit, EndsUnread, EndsWriting, Flushes}
 use Rattle.steer_top.specs.Endings.{StopsAt, ending_of_stream}
 use Rattle.steer_top.specs.declared.ending.Role.{Role}
@@ -118,15 +118,6 @@ stops_later ending.OutOfMemory r name bytes before mid after asked later h = tt
 stops_later ending.Done r name bytes before mid after asked later h = absurd h
 stops_later ending.Usage r name bytes before mid after asked later h = absurd h
 stops_later ending.WriteFault r name bytes before mid after asked later h = absurd h
-
--- a fault that is not want of memory is the reason of a refusal
-pub ends_unfit_as : {F : Type 0} (fault memory : F) (reason : Refusal) (e : Ending) (r : Role)
-    (bytes : List ℕ)
-    → EndsAs fault memory reason e → (fault ≢ memory → IsNot r bytes reason) → EndsUnfit e r bytes
-ends_unfit_as fault memory reason e r bytes (inl (want, is)) has =
-    subst (λ x. EndsUnfit x r bytes) (sym is) tt
-ends_unfit_as fault memory reason e r bytes (inr (other, is)) has =
-    subst (λ x. EndsUnfit x r bytes) (sym is) (has other)
 
 -- the first bad file is refused
 refused_at : (earlier later : List Role) (r : Role) (files : Files) (reason : Refusal)

@@ -1,6 +1,5 @@
 -- The texts of `hash` and `place` by what is kept of the frames of a capture.
-use Rattle.std.proofs.Common.{◌≡◌, ◌<◌, ℕ, List, [], length, get_or, map, Option}
-use Rattle.std.proofs.Common.{arith, ap, ◌∙◌}
+use Rattle.std.proofs.Common.{◌≡◌, ◌<◌, ℕ, List, [], length, get_or, map, Option, arith, ap, ◌∙◌}
 use Rattle.std.proofs.lemmas.List.{get_or-map, length-map}
 use Rattle.flow_dissector.specs.Frame.{flow_of}
 use Rattle.pcap_reader.specs.Captures.{frame_of}

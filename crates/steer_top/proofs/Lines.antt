@@ -1,9 +1,9 @@
 -- The lines of packets, one after another.
-use Rattle.std.proofs.Common.{◌≡◌, ◌<◌, ℕ, ◌+◌, List, [], ◌∷◌, ◌++◌, length, take, drop}
+use Rattle.std.proofs.Common.{◌≡◌, ◌<◌, ℕ, ◌+◌, List, [], ◌∷◌, ◌++◌, length, take}
 use Rattle.std.proofs.Common.{get_or, append_assoc, append-nil, refl, arith, sym, ap, ◌∙◌}
 use Rattle.std.proofs.Common.{◌≤◌, zero, suc, inl, inr, Option}
 use Rattle.std.proofs.lemmas.Bool.{cases_lt}
-use Rattle.std.proofs.lemmas.List.{take_more, take-append-drop, length-take-le, take_all}
+use Rattle.std.proofs.lemmas.List.{take_more, length-take-le, take_all}
 use Rattle.pcap_reader.specs.Captures.{frame_of}
 use Rattle.pcap_reader.specs.declared.capture.Capture.{Capture}
 use Rattle.pcap_reader.specs.declared.record.PcapRecord.{PcapRecord}
@@ -58,15 +58,6 @@ module _ (line : ℕ → List ℕ → List ℕ) (bytes : List ℕ) where
       omega (arith, length-take-le n rs (omega (arith, h))) in
       rw (take_more rs n d h, packet_lines-append 0 (take n rs) (get_or rs n d ∷ []), len)
       (ap (λ t. packet_lines line bytes 0 (take n rs) ++ t) (append-nil _))
-
-  -- the lines so far are the front of all lines
-  pub packet_lines-front : (n : ℕ) (rs : List PcapRecord)
-      → packet_lines line bytes 0 rs
-      ≡ packet_lines line bytes 0 (take n rs) ++ packet_lines line bytes (0 + length (take n rs))
-      (drop n rs)
-  packet_lines-front n rs =
-      ap (packet_lines line bytes 0) (sym (take-append-drop n rs))
-      ∙ packet_lines-append 0 (take n rs) (drop n rs)
 
   -- lines of numbers are the lines of these records where each is that of the record's frame
   pub numbered_lines-are : (own : ℕ → List ℕ) (rs : List PcapRecord) (d : PcapRecord)

@@ -1,6 +1,5 @@
 -- What a call over files and sinks in memory comes to, by what is promised of every call.
-use Rattle.std.proofs.Common.{◌≡◌, ◌⊎◌, ℕ, List, [], Option, Some, inl, inr, sym}
-use Rattle.std.proofs.Common.{subst, ◌∙◌, arith}
+use Rattle.std.proofs.Common.{◌≡◌, ◌⊎◌, ℕ, List, [], Option, Some, inl, inr, sym, subst, ◌∙◌, arith}
 use Rattle.std.proofs.Math.Seq.{take-nil}
 use Rattle.outside_io.specs.Counts.{Rose}
 use Rattle.outside_io.specs.MemoryDesk.{asked_on, memory_desk_faults}

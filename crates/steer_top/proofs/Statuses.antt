@@ -16,8 +16,7 @@ use Rattle.steer_top.specs.Outcomes.{FilesAreKnown, Writes, roles_of, file_bytes
 use Rattle.steer_top.specs.Words.{CommandWords}
 use Rattle.steer_top.specs.Words.CommandWords.{Check, Gen, Hash, Place, Replay, Run}
 use Rattle.steer_top.specs.Endings.{Course, DeskFailed, OutFailed, Gave, EndsCommand, IsRefusal}
-use Rattle.steer_top.specs.Endings.{IsUnread}
-use Rattle.steer_top.specs.Endings.{status_of, status_of_refusal}
+use Rattle.steer_top.specs.Endings.{IsUnread, status_of, status_of_refusal}
 use Rattle.steer_top.specs.declared.ending.Role.{Role}
 use Rattle.steer_top.specs.declared.ending.Role.TheVariants as role
 use Rattle.steer_top.specs.declared.ending.Refusal.{Refusal}

@@ -1,8 +1,7 @@
 -- A line that is written in pieces, and then sent on.
 use Rattle.std.proofs.Common.{◌≡◌, ◌<◌, ◌≤◌, ℕ, ◌+◌, List, [], ◌∷◌, ◌++◌, length, take, drop}
-use Rattle.std.proofs.Common.{get_or, inl, inr}
-use Rattle.std.proofs.Common.{Option, Result, Ok, Err}
-use Rattle.std.proofs.Common.{length-append, append-nil, arith, sym, ap, subst, ◌∙◌}
+use Rattle.std.proofs.Common.{get_or, inl, inr, Option, Result, Ok, Err, length-append, append-nil}
+use Rattle.std.proofs.Common.{arith, sym, ap, subst, ◌∙◌}
 use Rattle.std.specs.List.{flat_map}
 use Rattle.std.specs.Prelude.{OnErr}
 use Rattle.std.specs.Io.KnownBytes.{Appends, Keeps}

@@ -1,7 +1,6 @@
 -- How a command ends: with which status and which line, and what is true then.
 use Rattle.std.specs.Prelude.{◌≡◌, ◌≢◌, ◌≤◌, ◌<◌, ◌⊎◌, ℕ, List, [], ◌∷◌, ◌++◌, length, codes}
-use Rattle.std.specs.Prelude.{decimal, ⊤}
-use Rattle.std.specs.Prelude.{Option, Some, None, IfSome, ◌==◌, if◌then◌else◌}
+use Rattle.std.specs.Prelude.{decimal, ⊤, Option, Some, None, IfSome, ◌==◌, if◌then◌else◌}
 use Rattle.std.specs.Io.KnownBytes.{Keeps, Appends, IsAtEnd}
 use Rattle.capture_stream.specs.declared.fault.StreamFault.{StreamFault}
 use Rattle.capture_stream.specs.declared.fault.StreamFault.TheVariants as stream

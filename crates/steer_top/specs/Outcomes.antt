@@ -1,6 +1,5 @@
 -- What each command reads and writes: an equation of each definition for a command.
-use Rattle.std.specs.Prelude.{◌≡◌, ℕ, List, [], ◌∷◌, ⊤, Ok, Option, Some, None}
-use Rattle.std.specs.Prelude.{option_and_then}
+use Rattle.std.specs.Prelude.{◌≡◌, ℕ, List, [], ◌∷◌, ⊤, Ok, Option, Some, None, option_and_then}
 use Rattle.ntuple_rules.specs.Readings.{rules_of}
 use Rattle.ntuple_rules.specs.declared.rules.Rules.{Rules}
 use Rattle.pcap_reader.specs.declared.capture.Capture.{Capture}

@@ -1,7 +1,6 @@
 -- The words of the command line, without the program's name.
-use Rattle.std.specs.Prelude.{ℕ, List, [], ◌∷◌, Bool, false, not, ◌&&◌, ◌==◌, nat_le}
-use Rattle.std.specs.Prelude.{Option, Some, None, if◌then◌else◌, bytes_eq, codes, String}
-use Rattle.std.specs.Prelude.{string_bytes, map}
+use Rattle.std.specs.Prelude.{ℕ, List, [], ◌∷◌, Bool, false, not, ◌&&◌, ◌==◌, nat_le, Option, Some}
+use Rattle.std.specs.Prelude.{None, if◌then◌else◌, bytes_eq, codes, String, string_bytes, map}
 use Rattle.std.specs.declared.alloc.Global.{Global}
 use Rattle.std.specs.Option.{option_map}
 use Rattle.steer_base.specs.Decimals.{decimal_number}

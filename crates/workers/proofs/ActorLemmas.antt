@@ -18,8 +18,7 @@ use Rattle.workers.specs.Left.{all_played}
 use Rattle.workers.specs.Lists.{ArePairs}
 use Rattle.workers.specs.Overs.{IsOver}
 use Rattle.workers.specs.GatheredHands.{HaveAll, dealt_items}
-use Rattle.workers.proofs.PlayedLemmas.{all-at, all-count, all-dealt, all-taken}
-use Rattle.workers.proofs.PlayedLemmas.{have-all}
+use Rattle.workers.proofs.PlayedLemmas.{all-at, all-count, all-dealt, all-taken, have-all}
 
 some-same : {X : Type 0} {x y : X} → Some x ≡ Some y → x ≡ y
 some-same e = cc

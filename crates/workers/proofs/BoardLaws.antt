@@ -12,9 +12,8 @@ use Rattle.plan_reader.specs.declared.plan.TxPlan.{TxPlan}
 use Rattle.xps_map.specs.Maps.{no_cpus}
 use Rattle.steer_model.specs.Good.Inputs.{Input}
 use Rattle.steer_model.specs.State.Start.{initial_settings}
-use Rattle.run_words.specs.First.{FirstValuesStand, first_receive_settings}
+use Rattle.run_words.specs.First.{FirstValuesStand, first_receive_settings, first_transmit_settings}
 use Rattle.run_words.specs.Numbers.{word_count}
-use Rattle.run_words.specs.First.{first_transmit_settings}
 use Rattle.run_words.specs.declared.setting.ReceiveSetting.TheVariants as receive
 use Rattle.run_words.specs.declared.setting.TransmitSetting.TheVariants as transmit
 use Rattle.run_coupling.specs.Coupling.Inputs.{AreReceiveWords, AreTransmitWords, receive_queues}

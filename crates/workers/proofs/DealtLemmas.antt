@@ -1,7 +1,6 @@
 -- Actors that were dealt out to workers, by their numbers.
-use Rattle.std.proofs.Common.{◌≡◌, ℕ, zero, suc, ◌+◌, ◌*◌, ◌/◌, ◌%◌, ◌<◌}
-use Rattle.std.proofs.Common.{List, [], ◌∷◌, Some, length, map, sym, ap, ◌∙◌}
-use Rattle.std.proofs.Common.{arith, slice_get}
+use Rattle.std.proofs.Common.{◌≡◌, ℕ, zero, suc, ◌+◌, ◌*◌, ◌/◌, ◌%◌, ◌<◌, List, [], ◌∷◌, Some}
+use Rattle.std.proofs.Common.{length, map, sym, ap, ◌∙◌, arith, slice_get}
 use Rattle.std.proofs.lemmas.List.{length-map}
 use native.Mathlib.Nat as nat
 use Rattle.hop_rule.proofs.Lists.{none-some, some-is}

@@ -1,6 +1,5 @@
 -- Lists whose items are so at their indices.
-use Rattle.std.proofs.Common.{◌≡◌, ℕ, zero, suc, List, [], ◌∷◌, ◌++◌, length}
-use Rattle.std.proofs.Common.{refl, sym, subst}
+use Rattle.std.proofs.Common.{◌≡◌, ℕ, zero, suc, List, [], ◌∷◌, ◌++◌, length, refl, sym, subst}
 use Rattle.hop_rule.proofs.Lists.{none-some, some-is}
 use Rattle.run_workers.specs.Actors.{Each}
 

@@ -1,7 +1,6 @@
 -- The first pollers with their rings, and the first applications.
-use Rattle.std.proofs.Common.{◌≡◌, ℕ, zero, suc, ◌<◌, false, List, [], ◌∷◌, ◌++◌}
-use Rattle.std.proofs.Common.{None, Some, length, map, refl, sym, ap, ◌∙◌, arith, slice_get}
-use Rattle.std.proofs.Common.{slice_index_or}
+use Rattle.std.proofs.Common.{◌≡◌, ℕ, zero, suc, ◌<◌, false, List, [], ◌∷◌, ◌++◌, None, Some}
+use Rattle.std.proofs.Common.{length, map, refl, sym, ap, ◌∙◌, arith, slice_get, slice_index_or}
 use Rattle.std.specs.Prelude.{slice_index}
 use Rattle.std.proofs.lemmas.List.{length-append}
 use Rattle.std.proofs.lemmas.Option.{slice_get_within}

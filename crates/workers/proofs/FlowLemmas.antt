@@ -1,7 +1,6 @@
 -- All packets of a flow have one hash, by what a capture's packets are.
 use Rattle.std.proofs.Common.{◌≡◌, ◌≢◌, ◌⊎◌, inl, inr, ℕ, zero, suc, ◌<◌, List, [], ◌∷◌, Bool}
-use Rattle.std.proofs.Common.{Option}
-use Rattle.std.proofs.Common.{None, Some, length, sym, refl, ap, ◌∙◌, arith}
+use Rattle.std.proofs.Common.{Option, None, Some, length, sym, refl, ap, ◌∙◌, arith}
 use Rattle.std.specs.Option.{option_map}
 use Rattle.std.specs.Prelude.{if◌then◌else◌, unwrap_or}
 use Rattle.std.proofs.lemmas.Bool.{cases_eq, eq-eqb, ne_eqb}

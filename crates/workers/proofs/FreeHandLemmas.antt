@@ -1,15 +1,13 @@
 -- If no worker has a packet in hand, no actor has.
 use Rattle.std.proofs.Common.{◌≡◌, ℕ, zero, suc, List, [], ◌∷◌, Bool, true, false, Option, None}
-use Rattle.std.proofs.Common.{Some}
-use Rattle.std.proofs.Common.{refl, ap, ◌∙◌}
+use Rattle.std.proofs.Common.{Some, refl, ap, ◌∙◌}
 use Rattle.std.specs.List.{list_all}
 use Rattle.std.specs.Option.{is_none}
 use Rattle.std.specs.Prelude.{◌&&◌, slice_get}
 use Rattle.run_workers.specs.declared.drain.Drain.{Drain}
 use Rattle.run_workers.specs.declared.poller.Poller.{Poller}
 use Rattle.run_workers.specs.declared.server.Server.{Server}
-use Rattle.run_workers.specs.Workers.{drains_are_free, is_free, pollers_are_free}
-use Rattle.run_workers.specs.Workers.{servers_are_free}
+use Rattle.run_workers.specs.Workers.{drains_are_free, is_free, pollers_are_free, servers_are_free}
 use Rattle.run_workers.specs.declared.worker.Worker.{Worker}
 use Rattle.run_crew.specs.Sweeps.{all_free}
 use Rattle.run_crew.specs.declared.seated.Seated.{Seated}

@@ -15,8 +15,7 @@ use Rattle.run_words.specs.declared.seats.Seats.{Seats}
 use Rattle.run_workers.specs.Actors.{Each}
 use Rattle.run_workers.specs.Looks.{look_count}
 use Rattle.run_workers.specs.Stages.{StageView}
-use Rattle.run_workers.specs.Tally.{AreSeatsOf, HasFinished, IsCounter, IsTally}
-use Rattle.run_workers.specs.Tally.{LoadedCountsHold}
+use Rattle.run_workers.specs.Tally.{AreSeatsOf, HasFinished, IsCounter, IsTally, LoadedCountsHold}
 use Rattle.run_workers.specs.Tally.{SawFinished, StoreAtMostTheirs, StoresAtMost, finished_by}
 use Rattle.run_workers.specs.Workers.{GoesOn, is_free}
 use Rattle.run_workers.specs.declared.tally.Counter.{Counter}

@@ -1,6 +1,5 @@
 -- Items that are dealt out in turn to a number of hands.
-use Rattle.std.specs.Prelude.{◌≡◌, ℕ, ◌/◌, ◌%◌, List, Option, [], length, slice_get}
-use Rattle.std.specs.Prelude.{slice_index_or}
+use Rattle.std.specs.Prelude.{◌≡◌, ℕ, ◌/◌, ◌%◌, List, Option, [], length, slice_get, slice_index_or}
 
 -- The hand with this number, empty if there is none.
 abbrev pub hand_at : {A : Type 0} → List (List A) → ℕ → List A

@@ -1,6 +1,5 @@
 -- One arrival, and what the wire has given to its rings.
-use Rattle.std.specs.Prelude.{◌≡◌, ℕ, ◌+◌, ◌<◌, ◌≤◌, length}
-use Rattle.std.specs.Prelude.{slice_index_or}
+use Rattle.std.specs.Prelude.{◌≡◌, ℕ, ◌+◌, ◌<◌, ◌≤◌, length, slice_index_or}
 use Rattle.rtrb.specs.Ring.{SameProducer, known_free, sent}
 use Rattle.steer_base.specs.Journals.{grown}
 use Rattle.history.specs.Lists.{arrivals_at}

@@ -1,9 +1,7 @@
 -- A poller's table names processors of the board, and so do its choices.
 use Rattle.std.proofs.Common.{◌≡◌, ◌≢◌, ◌⊎◌, inl, inr, ℕ, ◌<◌, ◌==◌, nat_lt, Bool, true, false}
-use Rattle.std.proofs.Common.{◌&&◌, ◌%◌, true≢false, List, Option, None}
-use Rattle.std.proofs.Common.{Some, IfSome, IsTrue, refl, sym, ap}
-use Rattle.std.proofs.Common.{subst, ◌∙◌, length, arith, All}
-use Rattle.std.proofs.Common.{if◌then◌else◌, slice_index}
+use Rattle.std.proofs.Common.{◌&&◌, ◌%◌, true≢false, List, Option, None, Some, IfSome, IsTrue, refl}
+use Rattle.std.proofs.Common.{sym, ap, subst, ◌∙◌, length, arith, All, if◌then◌else◌, slice_index}
 use Rattle.std.specs.Option.{IsSome}
 use Rattle.std.proofs.Math.Nat.{mod-lt}
 use Rattle.std.proofs.lemmas.Bool.Decides.{eqb_tells, nat_tests}

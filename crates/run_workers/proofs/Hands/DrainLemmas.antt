@@ -1,7 +1,6 @@
 -- What steps leave of a drain's record.
-use Rattle.std.proofs.Common.{◌≡◌, ℕ, ◌+◌, ◌==◌, List, [], ◌∷◌, ◌++◌, All, None, Some}
-use Rattle.std.proofs.Common.{refl, sym, ap, subst, ◌∙◌, false, length, arith}
-use Rattle.std.proofs.Common.{Bool}
+use Rattle.std.proofs.Common.{◌≡◌, ℕ, ◌+◌, ◌==◌, List, [], ◌∷◌, ◌++◌, All, None, Some, refl, sym}
+use Rattle.std.proofs.Common.{ap, subst, ◌∙◌, false, length, arith, Bool}
 use Rattle.std.proofs.lemmas.Bool.{eq-eqb}
 use Rattle.std.proofs.lemmas.List.Elements.{All-cons, filter_map-append}
 use Rattle.steer_base.specs.Lanes.{LaneLists}

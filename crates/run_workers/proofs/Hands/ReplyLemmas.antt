@@ -10,8 +10,8 @@ use Rattle.steer_base.specs.declared.choice.Choice.{Choice}
 use Rattle.steer_base.specs.declared.cpu_mask.CpuMask.{CpuMask}
 use Rattle.steer_base.specs.declared.put.Put.{Put}
 use Rattle.dev_flow_table.specs.Folds.{table_after}
-use Rattle.dev_flow_table.specs.Tables.{Table}
-use Rattle.xps_map.specs.Maps.{Maps, no_cpus}
+use Rattle.dev_flow_table.specs.Tables.{Table, IsClassOf, weighed}
+use Rattle.xps_map.specs.Maps.{Maps, no_cpus, picked}
 use Rattle.hop_rule.specs.declared.step.BoardStep.{BoardStep}
 use Rattle.hop_rule.specs.declared.step.BoardStep.TheVariants.{Gate}
 use Rattle.hop_rule.specs.declared.step.GateStep.TheVariants.{Entered, Left, Read}
@@ -27,15 +27,12 @@ use Rattle.hint_words.specs.declared.step.HintStep.{HintStep}
 use Rattle.steer_base.specs.Journals.{Journal, grown}
 use Rattle.steer_base.specs.declared.choice.Chosen.{Chosen}
 use Rattle.steer_base.specs.declared.put.Put.TheVariants.{At, Dropped}
-use Rattle.dev_flow_table.specs.Tables.{IsClassOf, weighed}
-use Rattle.xps_map.specs.Maps.{picked}
 use Rattle.steer_model.specs.State.Setup.{Setup, flow_number_of, packet_hash}
 use Rattle.run_words.specs.Values.{cpus_in, queues_in}
 use Rattle.run_workers.specs.Hands.KeptMaps.{Kept, with_map}
 use Rattle.run_workers.specs.Hands.Pollers.{HasLanesBelow, put_of}
 use Rattle.run_workers.specs.Hands.Servers.{ChoosesLane, IsServer, MapRead, MapsRead, PutsReply}
-use Rattle.run_workers.specs.Hands.Servers.{ReadsMap}
-use Rattle.run_workers.specs.Hands.Servers.{Replies, Sends, Stands, in_hand}
+use Rattle.run_workers.specs.Hands.Servers.{ReadsMap, Replies, Sends, Stands, in_hand}
 use Rattle.run_workers.specs.declared.server.Server.{Server}
 use Rattle.run_workers.proofs.Hands.ChoiceLemmas.{class_stays, told_below}
 use Rattle.run_workers.proofs.Hands.DeltaLemmas.{adds_both, holds_both, leaves_both, quiet_both}
@@ -43,8 +40,7 @@ use Rattle.board_api.proofs.AddedSteps.{quiet_steps_stay}
 use Rattle.run_workers.proofs.Hands.PutLemmas.{PutMade}
 use Rattle.run_workers.proofs.Hands.ServerLemmas.{quiet_place}
 use Rattle.run_workers.proofs.Hands.VisitLemmas.{AreIdle, HeadSteps, head_steps, idle_both}
-use Rattle.run_workers.proofs.Hands.VisitLemmas.{idle_entered}
-use Rattle.run_workers.proofs.Hands.VisitLemmas.{idle_left, loads_if}
+use Rattle.run_workers.proofs.Hands.VisitLemmas.{idle_entered, idle_left, loads_if}
 
 -- ---- the put
 

@@ -19,8 +19,7 @@ use Rattle.steer_model.specs.State.Setup.{Setup}
 use Rattle.run_workers.specs.Hands.Deltas.{LeavesLane}
 use Rattle.run_workers.specs.Hands.Drains.{IsDrain}
 use Rattle.run_workers.specs.Hands.Laws.{ApplicationsExplain, ApplicationsLeaveDrains}
-use Rattle.run_workers.specs.Hands.Laws.{ApplicationsStay}
-use Rattle.run_workers.specs.Hands.Laws.{StaysApplication}
+use Rattle.run_workers.specs.Hands.Laws.{ApplicationsStay, StaysApplication}
 use Rattle.run_workers.specs.Hands.Servers.{BacksOut, LeavesInbox, Queued, RepliesOrKeeps}
 use Rattle.run_workers.specs.Hands.Servers.{TakesNext, TakesOrLeaves, Writes}
 use Rattle.run_workers.specs.declared.drain.Drain.{Drain}

@@ -1,7 +1,6 @@
 -- A visit in which a packet was steered is a turn.
-use Rattle.std.proofs.Common.{◌≡◌, ℕ, List, [], ◌∷◌, ◌++◌}
-use Rattle.std.proofs.Common.{Option, None, Some, IfSome, refl, sym, ap}
-use Rattle.std.proofs.Common.{◌⊎◌, inl, inr, false, subst, ◌∙◌, unwrap_or, length, append_assoc}
+use Rattle.std.proofs.Common.{◌≡◌, ℕ, List, [], ◌∷◌, ◌++◌, Option, None, Some, IfSome, refl, sym}
+use Rattle.std.proofs.Common.{ap, ◌⊎◌, inl, inr, false, subst, ◌∙◌, unwrap_or, length, append_assoc}
 use Rattle.std.proofs.lemmas.List.Elements.{Contains-append_left, Contains-append_right}
 use Rattle.std.proofs.lemmas.List.Elements.{Contains-push}
 use Rattle.linearization.specs.Orders.{step_by}
@@ -27,11 +26,10 @@ use Rattle.steer_model.specs.State.Setup.{Setup, packet_hash}
 use Rattle.run_workers.specs.Hands.Deltas.{HoldsNoMore, LeavesLane}
 use Rattle.run_workers.specs.Hands.Drains.{IsDrain}
 use Rattle.run_workers.specs.Hands.Laws.{PollsLeaveDrains, ServesExplain, VisitsExplain}
-use Rattle.run_workers.specs.Hands.Pollers.{FindsClosed, SteersHand, Waits}
+use Rattle.run_workers.specs.Hands.Pollers.{FindsClosed, SteersHand, Waits, LoadedHead, LoadsHead}
+use Rattle.run_workers.specs.Hands.Pollers.{Steers, Visits, class_read, desired_read, online_read}
+use Rattle.run_workers.specs.Hands.Pollers.{put_of, read_steps, refreshed}
 use Rattle.run_workers.specs.declared.drain.Drain.{Drain}
-use Rattle.run_workers.specs.Hands.Pollers.{LoadedHead, LoadsHead, Steers, Visits, class_read}
-use Rattle.run_workers.specs.Hands.Pollers.{desired_read, online_read, put_of, read_steps}
-use Rattle.run_workers.specs.Hands.Pollers.{refreshed}
 use Rattle.run_workers.specs.declared.poller.Reading.{Reading}
 use Rattle.run_workers.proofs.Hands.ChoiceLemmas.{class_stays}
 use Rattle.run_workers.proofs.Hands.DrainLemmas.{stays_drain}

@@ -1,8 +1,7 @@
 -- A poller's record of its turns, after a poll and beside other actors.
-use Rattle.std.proofs.Common.{is_some}
-use Rattle.std.proofs.Common.{◌≡◌, ◌⊎◌, inl, inr, ℕ, ◌<◌, List, [], ◌∷◌, ◌++◌, Bool, true, false}
-use Rattle.std.proofs.Common.{Option, None, Some, IfSome, if◌then◌else◌, length, map, sym, refl}
-use Rattle.std.proofs.Common.{ap, ◌∙◌, subst, arith}
+use Rattle.std.proofs.Common.{is_some, ◌≡◌, ◌⊎◌, inl, inr, ℕ, ◌<◌, List, [], ◌∷◌, ◌++◌, Bool, true}
+use Rattle.std.proofs.Common.{false, Option, None, Some, IfSome, if◌then◌else◌, length, map, sym}
+use Rattle.std.proofs.Common.{refl, ap, ◌∙◌, subst, arith}
 use Rattle.std.specs.Prelude.{nat_lt}
 use Rattle.std.specs.List.{filter_map}
 use Rattle.std.proofs.lemmas.Bool.Decides.{nat_tests}
@@ -30,8 +29,7 @@ use Rattle.run_workers.specs.declared.poller.Poller.{Poller}
 use Rattle.run_workers.proofs.Hands.VisitLemmas.{visits_explain}
 use Rattle.run_workers.specs.Records.Growth.{Grows, TurnsGrow, held}
 use Rattle.run_workers.specs.Records.Polling.{AllPolled, HasLookedUp, IsLastLook, IsLastMark}
-use Rattle.run_workers.specs.Records.Polling.{IsPolled, IsPolling, PolledTurn}
-use Rattle.run_workers.specs.Records.Polling.{choices_in}
+use Rattle.run_workers.specs.Records.Polling.{IsPolled, IsPolling, PolledTurn, choices_in}
 use Rattle.run_workers.specs.Records.Polling.{last_flows, packet_of_number, ring_packets}
 use Rattle.run_workers.specs.Records.Polling.{polled_table}
 use Rattle.run_workers.specs.Records.PollingLaws.{PollersBegin, PollersGoOn, PollersStay, PollsOn}

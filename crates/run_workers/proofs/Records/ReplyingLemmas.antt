@@ -31,8 +31,7 @@ use Rattle.run_workers.proofs.Hands.ServerLaws.{applications_explain}
 use Rattle.run_workers.specs.Records.Growth.{Grows, held}
 use Rattle.run_workers.specs.Records.Polling.{choices_in}
 use Rattle.run_workers.specs.Records.Replying.{EachReplied, HasWrittenAll, HasFound, HasReadInside}
-use Rattle.run_workers.specs.Records.Replying.{IsReplied}
-use Rattle.run_workers.specs.Records.Replying.{IsReplying, RepliedTurn, replied_table}
+use Rattle.run_workers.specs.Records.Replying.{IsReplied, IsReplying, RepliedTurn, replied_table}
 use Rattle.run_workers.specs.Records.Replying.{taken_by}
 use Rattle.run_workers.specs.Records.ReplyingLaws.{ArrivalsComeLate, RepliesGoOn, RepliesOn}
 use Rattle.run_workers.specs.Records.ReplyingLaws.{ServersBegin, ServersStay, TakesGoOn, TakesOn}
@@ -44,8 +43,7 @@ use Rattle.run_workers.proofs.Records.HeldLemmas.{writes_grow, writes_later}
 use Rattle.run_workers.proofs.Records.HeldLemmas.{writes_more, writes_there}
 use Rattle.run_workers.proofs.Records.HintLemmas.{leaves_load, load_grow, steps_one, steps_same}
 use Rattle.run_workers.proofs.Records.ListLemmas.{append_none, contains_later, get_last, grows_both}
-use Rattle.run_workers.proofs.Records.ListLemmas.{grows_same, noted_more}
-use Rattle.run_workers.proofs.Records.ListLemmas.{own_turn}
+use Rattle.run_workers.proofs.Records.ListLemmas.{grows_same, noted_more, own_turn}
 use Rattle.run_workers.proofs.Records.WordLemmas.{AreRead, words_of}
 use Rattle.run_workers.proofs.Hands.WaitLemmas.{leaves_at_board}
 

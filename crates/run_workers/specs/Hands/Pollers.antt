@@ -8,8 +8,7 @@ use Rattle.std.specs.Option.{is_some}
 use Rattle.rtrb.specs.Ring.{known_items, received}
 use Rattle.linearization.specs.Seats.{SeatView}
 use Rattle.steer_base.specs.Arrivals.{filter_place}
-use Rattle.steer_base.specs.Choices.{class_of, desired_cpu, looks_at_head, migrate}
-use Rattle.steer_base.specs.Choices.{rps_choice_of}
+use Rattle.steer_base.specs.Choices.{class_of, desired_cpu, looks_at_head, migrate, rps_choice_of}
 use Rattle.steer_base.specs.Counters.{rounded_up}
 use Rattle.steer_base.specs.Journals.{grown}
 use Rattle.steer_base.specs.HashTables.{place_in_rows}

@@ -1,5 +1,4 @@
-use Rattle.run_crew.proofs.StoreCouplingLemmas.{stores_are_meant_by_each}
-use Rattle.run_crew.proofs.StoreCouplingLemmas.{workers_stores_are_meant}
+use Rattle.run_crew.proofs.StoreCouplingLemmas.{stores_are_meant_by_each, workers_stores_are_meant}
 use Rattle.run_crew.proofs.coupling_laws.stores_are_meant.Goals as goal
 
 pub returns-clause-worker : goal.returns-clause-worker
