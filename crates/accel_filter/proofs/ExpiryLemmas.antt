@@ -1,7 +1,8 @@
 -- The expiry of a table, from set filter to set filter.
 use Rattle.std.proofs.Common.{ℕ, ◌+◌, ◌<◌, ◌≤◌, ◌≡◌, Bool, true, false, List, [], ◌∷◌, ◌++◌}
 use Rattle.std.proofs.Common.{Option, None, Some, length, take, drop, map, cond, refl, ap, sym}
-use Rattle.std.proofs.Common.{◌∙◌, arith, zero, suc, inl, inr, subst, get_or, add-one, append-nil, length-append}
+use Rattle.std.proofs.Common.{◌∙◌, arith, zero, suc, inl, inr, subst, get_or, add-one}
+use Rattle.std.proofs.Common.{append-nil, length-append}
 use Rattle.std.specs.Prelude.{slice_index_or, slice_set}
 use Rattle.std.specs.List.{All, filter}
 use Rattle.std.specs.Slice.Scan.{HoldsNowhere}

@@ -121,8 +121,8 @@ module _ (left base from : ℕ) (filters : List (Option Filter))
           omega (arith, below, other))
     ]
 
--- The filters of a word that a walk has passed are expired, as many as it counted; those of the bits
--- that are left are still to come.
+-- The filters of a word that a walk has passed are expired, as many as it counted; those of the
+-- bits that are left are still to come.
 abbrev pub IsWalked : List ℕ → List ℕ → ℕ → List (Option Filter) → ℕ → ℕ → List (Option Filter)
     → Type 0
 IsWalked heads flows base old left count filters = (from : ℕ) × (count ≤ from)

@@ -14,7 +14,8 @@ loop-left-smaller-then-expire_by c =
 
 pub loop-left-preserved-then-expire_by : goal.loop-left-preserved-then-expire_by
 loop-left-preserved-then-expire_by c =
-    let one = ap {B = ℕ} (λ b. cond b 1 0) (sym c.if-expire_by.true ∙ c.expire_by.ensures.answer) in
+    let is_old = sym c.if-expire_by.true ∙ c.expire_by.ensures.answer in
+    let one = ap {B = ℕ} (λ b. cond b 1 0) is_old in
     walked_next _ _ _ _ _ _ _ c.loop-left.invariant (omega (arith, c.loop-left.auto.left-fits))
     (omega (arith, c.loop-left-test.true)) _ _ c.expire_by.ensures.state (omega (arith, one))
 
@@ -25,7 +26,8 @@ loop-left-smaller c =
 
 pub loop-left-preserved : goal.loop-left-preserved
 loop-left-preserved c =
-    let none = ap {B = ℕ} (λ b. cond b 1 0) (sym c.if-expire_by.false ∙ c.expire_by.ensures.answer) in
+    let not_old = sym c.if-expire_by.false ∙ c.expire_by.ensures.answer in
+    let none = ap {B = ℕ} (λ b. cond b 1 0) not_old in
     walked_next _ _ _ _ _ _ _ c.loop-left.invariant (omega (arith, c.loop-left.auto.left-fits))
     (omega (arith, c.loop-left-test.true)) _ _ c.expire_by.ensures.state (omega (arith, none))
 
