@@ -26,7 +26,7 @@ MOST_COUNT = 999999           # steps of a seed
 MOST_NUMBER = 2 ** 64 - 1
 MOST_BYTES = 16777216
 MOST_BRACKETS = 127           # open at once
-MOST_BRACES = 2500000         # opening ones, wherever they stand
+MOST_OPENING_BRACKETS = 800000    # { and [ together, wherever they stand
 
 
 class Most(NamedTuple):

@@ -219,9 +219,10 @@ def _too_much(data):
     """What steer refuses before it reads the text as JSON, or None."""
     if len(data) > limits.MOST_BYTES:
         return "%d bytes, and a plan has at most %d" % (len(data), limits.MOST_BYTES)
-    braces = data.count(b"{")
-    if braces > limits.MOST_BRACES:
-        return "%d opening braces, and steer reads at most %d" % (braces, limits.MOST_BRACES)
+    brackets = data.count(b"{") + data.count(b"[")
+    if brackets > limits.MOST_OPENING_BRACKETS:
+        return "%d opening brackets, and steer reads at most %d" % (
+            brackets, limits.MOST_OPENING_BRACKETS)
     return None
 
 

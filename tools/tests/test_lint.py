@@ -223,7 +223,8 @@ class Lint(unittest.TestCase):
         texts = ((b"{%s,\"steps\":[%s0]}" % (REST.encode(), b"0," * 1000000), 3,
                   "1000001 steps, and a plan has at most 1000000"),
                  (b" " * 16777217, 8, "16777217 bytes, and a plan has at most 16777216"),
-                 (b"{" * 2500001, 7, "2500001 opening braces, and steer reads at most 2500000"))
+                 (b"{" * 300000 + b"[" * 500001, 7,
+                  "800001 opening brackets, and steer reads at most 800000"))
         with tempfile.TemporaryDirectory() as folder:
             for text, status, reason in texts:
                 self.assertEqual(verdict(folder, "large", text)[0], status)

@@ -61,7 +61,7 @@ fn rules_of_bytes(alloc: Global, bytes: &[u8]) -> Result<Rules, Refusal>
 ///
 /// Memory may run out for any text; `OutOfMemory` says nothing about the rules. The JSON value of
 /// the text, which can take a hundred times its bytes, is freed once the rules are read. The result
-/// for a text with more than 800,000 opening brackets, of objects and arrays, is `OutOfMemory`.
+/// for a text with more than 800,000 opening brackets, `{` and `[` together, is `OutOfMemory`.
 #[tactic(auto, unfolding(crate::specs::Readings::rules_of))]
 pub fn read_rules(alloc: Global, bytes: &[u8]) -> Result<Rules, PlanFault>
     ensures rules { IfOk result (λ rules. rules_of bytes.now ≡ Ok rules) }

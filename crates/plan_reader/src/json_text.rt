@@ -12,13 +12,13 @@ use serde_json::Value;
 use std::alloc::Global;
 use steer_base::List;
 
-/// The most opening brackets, of objects and arrays, of a text whose JSON value is made. In memory
-/// an object takes up to 940 bytes and an array up to 144, so that the value of a text of 16 MiB,
-/// the most that is read, takes less than 1.2 GB.
+/// The most opening brackets, of objects and arrays, of a text whose JSON value is made. An object
+/// of one key takes some 940 bytes of memory, and one of 16 keys 3,500, so that the value of a text
+/// of 16 MiB takes less than 1.2 GB.
 const MOST_OPENING_BRACKETS: usize = 800_000;
 
-/// Whether a text may have so many objects and arrays that its JSON value isn't made. No plan needs
-/// as many, and no rules do: a few hundred and some 4,100.
+/// Whether a text may have so many objects and arrays that its JSON value isn't made. A plan needs
+/// at most 168 of them, and rules at most 4,098.
 fn has_too_many_brackets(bytes: &[u8]) -> bool
     ensures { result
         ≡ nat_lt 800000 (count_by (λ byte. byte == 123 || byte == 91) bytes.now) }

@@ -60,8 +60,8 @@ fn plan_with(alloc: Global, parts: Parts) -> Result<Plan, AllocError>
 ///
 /// Memory may run out for any text; `OutOfMemory` says nothing about the plan. The JSON value of
 /// the text, which can take a hundred times its bytes, is freed once the fields are read, before
-/// the commands are listed. A text with more than 800,000 opening brackets, of objects and
-/// arrays, has the result `OutOfMemory`.
+/// the commands are listed. A text with more than 800,000 opening brackets, `{` and `[` together,
+/// has the result `OutOfMemory`.
 #[tactic(auto, unfolding(crate::specs::PlanTexts::plan_of))]
 pub fn read_plan(alloc: Global, bytes: &[u8]) -> Result<Plan, PlanFault>
     ensures plan { IfOk result (λ plan. plan_of bytes.now ≡ Ok (settings_of plan)) }

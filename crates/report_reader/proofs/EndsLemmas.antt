@@ -89,14 +89,14 @@ behind [] ys s = refl
 behind (x ∷ xs) ys s = behind xs ys s
 
 -- what follows a field and its separator
-follows : (bytes next tail : List ℕ) (start end s : ℕ) → end ≡ start + length next
+pub follows : (bytes next tail : List ℕ) (start end s : ℕ) → end ≡ start + length next
     → drop start bytes ≡ next ++ (s ∷ tail) → drop (end + 1) bytes ≡ tail
 follows bytes next tail start end s e t =
     drop-plus start (suc (length next)) (end + 1) bytes (omega (arith, e))
     ∙ ap (drop (suc (length next))) t ∙ behind next tail s
 
-parts-on : (done : List (List ℕ)) (x : List ℕ) (more : List (List ℕ)) → (done ++ (x ∷ [])) ++ more ≡
-    done ++ (x ∷ more)
+pub parts-on : (done : List (List ℕ)) (x : List ℕ) (more : List (List ℕ))
+    → (done ++ (x ∷ [])) ++ more ≡ done ++ (x ∷ more)
 parts-on [] x more = refl
 parts-on (y ∷ done) x more = ap (λ l. y ∷ l) (parts-on done x more)
 
@@ -117,6 +117,15 @@ going-in bytes start end done all rest is g = by g.more g.text
 
 abbrev pub Piece : List ℕ → ℕ → ℕ → List ℕ
 Piece bytes start end = take (end - start) (drop start bytes)
+
+-- the next field of a line
+pub piece-by : (bytes : List ℕ) (start end : ℕ) (rest next : List ℕ) (more : List (List ℕ))
+    → IsEnd bytes start end → drop start bytes ≡ next ++ (further more ++ rest) → IsField next
+    → Piece bytes start end ≡ next
+piece-by bytes start end rest next [] is t f =
+    piece-is bytes next rest start end 10 is t f (inr refl)
+piece-by bytes start end rest next (g ∷ gs) is t f =
+    piece-is bytes next ((g ++ further gs) ++ rest) start end 32 is t f (inl refl)
 
 ten : (x : ℕ) → x ≡ 10 → x ≡ 32 → ⊥
 ten x a b = omega (arith, a, b)

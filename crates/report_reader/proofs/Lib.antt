@@ -13,5 +13,6 @@ pub mod SeenLemmas
 pub mod ShelvesLemmas
 pub mod ShortestLemmas
 pub mod ShownLemmas
+pub mod StepsLemmas
 pub mod TextsLemmas
 pub mod ValuesLemmas

@@ -12,7 +12,7 @@ use Rattle.report_reader.proofs.ValuesLemmas.{no-dash}
 no-drop : (n : ℕ) → n < 2 ^ 64 → decimal n ≡ codes "drop" → ⊥
 no-drop n h e = no_number n (codes "drop") h (inr (omega arith)) e
 
-pub put-none : (fs : List (List ℕ)) (o : Option Put) → ShowsPut fs o → field_at fs 19 ≡ codes "-"
+pub put-none : (fs : List (List ℕ)) (o : Option Put) → ShowsPut fs o → field_at fs 9 ≡ codes "-"
     → None ≡ o
 put-none fs None s e = refl
 put-none fs (Some (At position)) s e = absurd (no-dash position (omega (arith, s.1)) (sym s.0 ∙ e))
@@ -20,10 +20,10 @@ put-none fs (Some (Dropped number accepted pulled cause)) s e =
     absurd (let w : codes "drop" ≡ codes "-" = sym s.0 ∙ e in cc)
 
 pub put-drop : (fs : List (List ℕ)) (o : Option Put) (n a u : ℕ) (c : DropCause) → ShowsPut fs o
-    → field_at fs 19 ≡ codes "drop"
-    → ((m : ℕ) → m < 2 ^ 32 → field_at fs 20 ≡ decimal m → n ≡ m)
-    → ((m : ℕ) → m < 2 ^ 32 → field_at fs 21 ≡ decimal m → a ≡ m)
-    → ((m : ℕ) → m < 2 ^ 32 → field_at fs 22 ≡ decimal m → u ≡ m)
+    → field_at fs 9 ≡ codes "drop"
+    → ((m : ℕ) → m < 2 ^ 32 → field_at fs 10 ≡ decimal m → n ≡ m)
+    → ((m : ℕ) → m < 2 ^ 32 → field_at fs 11 ≡ decimal m → a ≡ m)
+    → ((m : ℕ) → m < 2 ^ 32 → field_at fs 12 ≡ decimal m → u ≡ m)
     → ((d : DropCause) → ShowsCause fs d → c ≡ d)
     → Some (Dropped n a u c) ≡ o
 put-drop fs None n a u c s e hn ha hu hc = absurd (let w : codes "-" ≡ codes "drop" = sym s

@@ -2,12 +2,12 @@
 use Rattle.std.proofs.Common.{ℕ, ◌≡◌, ◌≢◌, ◌≤◌, ◌+◌, ◌*◌, ◌++◌, List, [], ◌∷◌, length, drop}
 use Rattle.std.proofs.Common.{refl, ap, ◌∙◌, sym, subst, append_assoc, append-nil, length-append}
 use Rattle.std.proofs.Common.{arith}
-use Rattle.std.specs.Prelude.{slice_index_or}
 use Rattle.report.specs.Texts.{AreFields, IsField, Row, body, fields, row_text, text_of}
 use Rattle.report.specs.Texts.{word}
 use Rattle.report.specs.Texts.Row.{Line}
 use Rattle.report_reader.specs.Ends.{Going}
 use Rattle.report_reader.specs.Sections.{AreShown, IsOther, IsShown}
+use Rattle.report_reader.specs.Values.{HasSteps, values_of}
 use Rattle.report_reader.proofs.EndsLemmas.{going-none}
 
 -- what is left of a section behind the items that were read
@@ -42,10 +42,6 @@ going-row bytes next r rows f fs t = record {
   are_fields = fs;
 }
 
-front-is : (found : List (List ℕ)) (w : List ℕ) (fs : List (List ℕ)) → found ≡ w ∷ fs
-    → slice_index_or found 0 [] ≡ w
-front-is found w fs e = ap (λ l. slice_index_or l 0 []) e
-
 append-one : {T : Type 0} (done : List T) (x : T) (left : List T) → (done ++ (x ∷ [])) ++ left ≡
     done ++ (x ∷ left)
 append-one [] x left = refl
@@ -68,83 +64,89 @@ module _ {T : Type 0} (first : List ℕ) (least : ℕ) (shows : T → List (List
       s.are_fields
       (t ∙ ap (λ q. text_of (q ∷ (rows ++ rest))) s.is)
 
-  module _ (after : ℕ) (found : List (List ℕ))
+  -- whether a row begins with the word of the section is told by its first field
+  module _ (own : List ℕ)
+      (ho : (w : List ℕ) (fs : List (List ℕ)) (r : List ℕ) → Going bytes next [] (w ∷ fs) r
+      → own ≡ w) where
+    stops-by : (left : List T) (rows : List Row) → done ++ left ≡ items
+        → AreShown first least shows left rows
+        → drop next bytes ≡ text_of (rows ++ rest) → own ≢ first
+        → (done ≡ items) × (drop next bytes ≡ text_of rest)
+    stops-by [] [] j s t ne = (sym (append-nil done) ∙ j, t)
+    stops-by [] (r ∷ rows) j s t ne = absurd s
+    stops-by (x ∷ left) [] j s t ne = absurd s
+    stops-by (x ∷ left) (r ∷ rows) j s t ne =
+        absurd (ne (ho first s.0.further (text_of (rows ++ rest)) (line-shown x r rows s.0 t)))
+
+    pub section-stops : Left first least shows bytes next done items rest
+        → own ≢ first
+        → (done ≡ items) × (drop next bytes ≡ text_of rest)
+    section-stops l ne = stops-by l.left l.rows l.joins l.shown l.text ne
+
+  module _ (own : List ℕ)
+      (ho : (w : List ℕ) (fs : List (List ℕ)) (r : List ℕ) → Going bytes next [] (w ∷ fs) r
+      → own ≡ w) (steps : List ℕ)
+      (gives : T → List (List ℕ) → Type 0)
+      (law : (x : T) (all : List (List ℕ)) → shows x all
+      → HasSteps steps all × gives x (values_of steps all))
+      (after : ℕ) (found : List (List ℕ))
       (hf : (all : List (List ℕ)) (r : List ℕ) → length all ≤ 40 → Going bytes next [] all r
-      → found ≡ all)
+      → HasSteps steps all → found ≡ values_of steps all)
       (hn : (all : List (List ℕ)) (r : List ℕ) → length all ≤ 40 → Going bytes next [] all r
-      → drop after bytes ≡ r) where
+      → HasSteps steps all → drop after bytes ≡ r) where
+    other-first : drop next bytes ≡ text_of rest → own ≡ first → ⊥
+    other-first t e =
+        other.other (sym (ho (word other.next) (fields other.next)
+        (body other.next ++ text_of other.more) (line-other t)) ∙ e)
+
     goes-by : (left : List T) (rows : List Row) → done ++ left ≡ items
         → AreShown first least shows left rows
-        → drop next bytes ≡ text_of (rows ++ rest) → slice_index_or found 0 [] ≡ first
-        → (x : T) × shows x found × Left first least shows bytes after (done ++ (x ∷ []))
+        → drop next bytes ≡ text_of (rows ++ rest) → own ≡ first
+        → (x : T) × gives x found × Left first least shows bytes after (done ++ (x ∷ []))
         items rest
-    goes-by [] [] j s t e =
-        let few : length (word other.next ∷ fields other.next) ≤ 40 = omega (arith, other.few) in
-        let f = hf (word other.next ∷ fields other.next) (body other.next ++ text_of other.more) few
-        (line-other t) in
-        absurd (other.other (sym (front-is found (word other.next) (fields other.next) f) ∙ e))
+    goes-by [] [] j s t e = absurd (other-first t e)
     goes-by [] (r ∷ rows) j s t e = absurd s
     goes-by (x ∷ left) [] j s t e = absurd s
     goes-by (x ∷ left) (r ∷ rows) j s t e =
         let g = line-shown x r rows s.0 t in
         let few : length (first ∷ s.0.further) ≤ 40 = omega (arith, s.0.few) in
-        let f = hf (first ∷ s.0.further) (text_of (rows ++ rest)) few g in
+        let v = law x (first ∷ s.0.further) s.0.shown in
+        let f = hf (first ∷ s.0.further) (text_of (rows ++ rest)) few g v.0 in
         let l : Left first least shows bytes after (done ++ (x ∷ [])) items rest = record {
           left = left;
           rows = rows;
           joins = append-one done x left ∙ j;
           shown = s.1;
-          text = hn (first ∷ s.0.further) (text_of (rows ++ rest)) few g;
+          text = hn (first ∷ s.0.further) (text_of (rows ++ rest)) few g v.0;
         } in
-        (x, subst (shows x) (sym f) s.0.shown, l)
+        (x, subst (gives x) (sym f) v.1, l)
 
     pub section-goes : Left first least shows bytes next done items rest
-        → slice_index_or found 0 [] ≡ first
-        → (x : T) × shows x found × Left first least shows bytes after (done ++ (x ∷ []))
+        → own ≡ first
+        → (x : T) × gives x found × Left first least shows bytes after (done ++ (x ∷ []))
         items rest
     section-goes l e = goes-by l.left l.rows l.joins l.shown l.text e
 
     room-by : (left : List T) (rows : List Row) → AreShown first least shows left rows
-        → drop next bytes ≡ text_of (rows ++ rest) → slice_index_or found 0 [] ≡ first
+        → drop next bytes ≡ text_of (rows ++ rest) → own ≡ first
         → least + length (drop after bytes) ≤ length (drop next bytes)
-    room-by [] [] s t e =
-        let few : length (word other.next ∷ fields other.next) ≤ 40 = omega (arith, other.few) in
-        let f = hf (word other.next ∷ fields other.next) (body other.next ++ text_of other.more) few
-        (line-other t) in
-        absurd (other.other (sym (front-is found (word other.next) (fields other.next) f) ∙ e))
+    room-by [] [] s t e = absurd (other-first t e)
     room-by [] (r ∷ rows) s t e = absurd s
     room-by (x ∷ left) [] s t e = absurd s
     room-by (x ∷ left) (r ∷ rows) s t e =
         let g = line-shown x r rows s.0 t in
         let few : length (first ∷ s.0.further) ≤ 40 = omega (arith, s.0.few) in
-        let n = ap length (hn (first ∷ s.0.further) (text_of (rows ++ rest)) few g) in
+        let v = law x (first ∷ s.0.further) s.0.shown in
+        let n = ap length (hn (first ∷ s.0.further) (text_of (rows ++ rest)) few g v.0) in
         let a = length-append (row_text r) (text_of (rows ++ rest)) in
         let m = ap length t in
         let l = s.0.long in omega (arith, n, a, m, l)
 
     -- the next row is not shorter than any of its kind
     pub section-room : Left first least shows bytes next done items rest
-        → slice_index_or found 0 [] ≡ first
+        → own ≡ first
         → least + length (drop after bytes) ≤ length (drop next bytes)
     section-room l e = room-by l.left l.rows l.shown l.text e
-
-    stops-by : (left : List T) (rows : List Row) → done ++ left ≡ items
-        → AreShown first least shows left rows
-        → drop next bytes ≡ text_of (rows ++ rest) → slice_index_or found 0 [] ≢ first
-        → (done ≡ items) × (drop next bytes ≡ text_of rest)
-    stops-by [] [] j s t ne = (sym (append-nil done) ∙ j, t)
-    stops-by [] (r ∷ rows) j s t ne = absurd s
-    stops-by (x ∷ left) [] j s t ne = absurd s
-    stops-by (x ∷ left) (r ∷ rows) j s t ne =
-        let g = line-shown x r rows s.0 t in
-        let few : length (first ∷ s.0.further) ≤ 40 = omega (arith, s.0.few) in
-        let f = hf (first ∷ s.0.further) (text_of (rows ++ rest)) few g in
-        absurd (ne (front-is found first s.0.further f))
-
-    pub section-stops : Left first least shows bytes next done items rest
-        → slice_index_or found 0 [] ≢ first
-        → (done ≡ items) × (drop next bytes ≡ text_of rest)
-    section-stops l ne = stops-by l.left l.rows l.joins l.shown l.text ne
 
   ends-by : (left : List T) (rows : List Row) → AreShown first least shows left rows
       → drop next bytes ≡ text_of (rows ++ rest)

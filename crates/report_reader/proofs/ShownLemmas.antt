@@ -29,8 +29,9 @@ use Rattle.report_reader.specs.declared.shortest.TheConstants.{SHORTEST_QUEUE, S
 use Rattle.report_reader.specs.declared.shortest.TheConstants.{SHORTEST_TX, SHORTEST_WRITE}
 use Rattle.report_reader.proofs.ShortestLemmas.{cpu-long, packet-long, queue-long, reply-long}
 use Rattle.report_reader.proofs.ShortestLemmas.{tx-long, write-long}
-use Rattle.report_reader.specs.Seen.{ShowsChoice, ShowsPacket, ShowsPut, ShowsReply, field_at}
-use Rattle.report_reader.specs.Seen.{put_end}
+use Rattle.report_reader.specs.Seen.{GivesPacket, ShowsChoice, ShowsPacket, ShowsPut, ShowsReply}
+use Rattle.report_reader.specs.Seen.{field_at, packet_steps, put_end, reply_steps}
+use Rattle.report_reader.specs.Values.{HasSteps, values_of}
 use Rattle.report_reader.specs.Sums.{ShowsSums, ShowsTaken, ShowsWrite}
 use Rattle.report_reader.specs.declared.packets.SeenReply.{SeenReply}
 use Rattle.report_reader.specs.declared.sums.AppWrite.{AppWrite}
@@ -45,22 +46,36 @@ with_put l o =
     ∷ codes "cpu" ∷ or_dash (lane_in l.choice) ∷ codes "why" ∷ why_word (why_in l.choice)
     ∷ codes "at" ∷ (put_fields o ++ last_fields l)
 
-put-shown : (l : PacketLine) (o : Option Put) → IfSome o PutFits → ShowsPut (with_put l o) o
+-- its values
+abbrev values_with : PacketLine → Option Put → List (List ℕ)
+values_with l o = values_of packet_steps (with_put l o)
+
+last-step : (l : PacketLine) (o : Option Put)
+    → HasSteps (3 ∷ []) (codes "at" ∷ (put_fields o ++ last_fields l))
+last-step l None = (refl, tt)
+last-step l (Some (At n)) = (refl, tt)
+last-step l (Some (FellAs n a u cause)) = (refl, tt)
+
+packet-steps : (l : PacketLine) (o : Option Put) → HasSteps packet_steps (with_put l o)
+packet-steps l o =
+    (refl, (refl, (refl, (refl, (refl, (refl, (refl, (refl, (refl, last-step l o)))))))))
+
+put-shown : (l : PacketLine) (o : Option Put) → IfSome o PutFits → ShowsPut (values_with l o) o
 put-shown l None f = refl
 put-shown l (Some (At n)) f = (refl, f)
 put-shown l (Some (FellAs n a u Full)) f = (refl, refl, f.0, refl, f.1, refl, f.2, refl)
 put-shown l (Some (FellAs n a u (Flow m))) f =
     (refl, refl, f.0, refl, f.1, refl, f.2, (refl, refl, f.3))
 
-app-shown : (l : PacketLine) (o : Option Put) → field_at (with_put l o) (put_end o + 1) ≡ decimal
-    l.app
+app-shown : (l : PacketLine) (o : Option Put)
+    → field_at (values_with l o) (put_end o + 1) ≡ decimal l.app
 app-shown l None = refl
 app-shown l (Some (At n)) = refl
 app-shown l (Some (FellAs n a u Full)) = refl
 app-shown l (Some (FellAs n a u (Flow m))) = refl
 
-inbox-shown : (l : PacketLine) (o : Option Put) → field_at (with_put l o) (put_end o + 3) ≡ or_dash
-    l.inbox
+inbox-shown : (l : PacketLine) (o : Option Put)
+    → field_at (values_with l o) (put_end o + 3) ≡ or_dash l.inbox
 inbox-shown l None = refl
 inbox-shown l (Some (At n)) = refl
 inbox-shown l (Some (FellAs n a u Full)) = refl
@@ -72,9 +87,9 @@ few-put l (Some (At n)) = omega arith
 few-put l (Some (FellAs n a u Full)) = omega arith
 few-put l (Some (FellAs n a u (Flow m))) = omega arith
 
-packet-shows : (l : PacketLine) → PacketFits l → l.app < 2 ^ 8
-    → ShowsPacket (seen_packet l) (codes "p" ∷ packet_fields l)
-packet-shows l f a = record {
+packet-gives : (l : PacketLine) → PacketFits l → l.app < 2 ^ 8
+    → GivesPacket (seen_packet l) (values_with l l.put)
+packet-gives l f a = record {
   queue_fits = f.queue;
   queue = refl;
   via = refl;
@@ -108,7 +123,10 @@ packet-shown l f a r =
       are_fields = r.1;
       few = few;
       long = packet-long l;
-      shown = packet-shows l f a;
+      shown = record {
+        steps = packet-steps l l.put;
+        values = packet-gives l f a;
+      };
     }
 
 pub packets-shown : {A : Type 0} (line : A → PacketLine) (xs : List A)
@@ -123,9 +141,9 @@ packets-shown line (x ∷ xs) f a r = (
 )
 
 bare-shown : (fs : List (List ℕ)) (o : Option Choice) → IfSome o ChoiceFits
-    → field_at fs 9 ≡ or_dash (want_in o) → field_at fs 11 ≡ or_dash (head_in o)
-    → field_at fs 13 ≡ or_dash (tail_in o)
-    → field_at fs 15 ≡ or_dash (lane_in o) → field_at fs 17 ≡ why_word (why_in o)
+    → field_at fs 4 ≡ or_dash (want_in o) → field_at fs 5 ≡ or_dash (head_in o)
+    → field_at fs 6 ≡ or_dash (tail_in o)
+    → field_at fs 7 ≡ or_dash (lane_in o) → field_at fs 8 ≡ why_word (why_in o)
     → ShowsChoice fs None (option_map without_class o)
 bare-shown fs None f a b c d e = record {
   fits = tt;
@@ -157,17 +175,22 @@ reply-shown r f i w = record {
   few = omega arith;
   long = reply-long r;
   shown = record {
-    id_fits = i;
-    id = refl;
-    rxq_fits = f.rxq;
-    rxq = refl;
-    cpu_fits = f.cpu;
-    cpu = refl;
-    choice = bare-shown (codes "r" ∷ reply_fields r) r.choice f.choice refl refl refl refl refl;
-    put_fits = f.put;
-    put = refl;
-    port_fits = f.port;
-    port = refl;
+    steps =
+        (refl, (refl, (refl, (refl, (refl, (refl, (refl, (refl, (refl, (refl, (refl, tt)))))))))));
+    values = record {
+      id_fits = i;
+      id = refl;
+      rxq_fits = f.rxq;
+      rxq = refl;
+      cpu_fits = f.cpu;
+      cpu = refl;
+      choice = bare-shown (values_of reply_steps (codes "r" ∷ reply_fields r)) r.choice f.choice
+          refl refl refl refl refl;
+      put_fits = f.put;
+      put = refl;
+      port_fits = f.port;
+      port = refl;
+    };
   };
 }
 

@@ -7,3 +7,4 @@ pub mod Sections
 pub mod Seen
 pub mod Slots
 pub mod Sums
+pub mod Values

@@ -134,12 +134,18 @@ impl Section<Commanded> for Commands {
 
     ghost shows = { ShowsCommanded };
 
+    ghost gives = { ShowsCommanded };
+
     fn word(&self) -> &'static [u8] {
         b"c".as_slice()
     }
 
     fn shortest(&self) -> usize {
         SHORTEST_COMMAND
+    }
+
+    fn steps(&self) -> &'static [u8] {
+        &[]
     }
 
     fn item(&self, fields: &Fields<'_>) -> Commanded {

@@ -1,6 +1,6 @@
 //! Where a field ends.
-ghost use Rattle.std.specs.Prelude.{◌≡◌, ◌≢◌, ◌≤◌, ◌⊎◌, false, length, true};
-ghost use Rattle.report_reader.specs.Ends.{IsEnd};
+ghost use Rattle.std.specs.Prelude.{◌≡◌, ◌≢◌, ◌≤◌, ◌⊎◌, ℕ, List, [], ◌∷◌, false, length, true};
+ghost use Rattle.report_reader.specs.Ends.{Going, IsEnd};
 
 // Whether a byte ends a field. Most do not, and one comparison tells.
 fn is_stop(byte: u8) -> bool
@@ -24,4 +24,13 @@ pub fn field_end(bytes: &[u8], at: usize) -> usize
         end += 1;
     }
     end
+}
+
+/// The first field of the line that begins at this place.
+pub fn first_field(bytes: &[u8], at: usize) -> &[u8]
+    requires { at ≤ length bytes.now }
+    ensures { (word : List ℕ) (fields : List (List ℕ)) (rest : List ℕ)
+        → Going bytes.now at [] (word ∷ fields) rest → result.now ≡ word }
+{
+    &bytes[at..field_end(bytes, at)]
 }

@@ -1,6 +1,6 @@
 //! The lines of packets and of replies.
 ghost use Rattle.std.specs.Prelude.{codes};
-ghost use Rattle.report_reader.specs.Seen.{ShowsPacket, ShowsReply};
+ghost use Rattle.report_reader.specs.Seen.{GivesPacket, GivesReply, ShowsPacket, ShowsReply};
 ghost use Rattle.report_reader.specs.declared.shortest.TheConstants.{SHORTEST_PACKET};
 ghost use Rattle.report_reader.specs.declared.shortest.TheConstants.{SHORTEST_REPLY};
 
@@ -47,6 +47,12 @@ pub struct SeenReply {
     pub port: Option<u32>,
 }
 
+// The bytes of p, q, via, class, want, head, tail, cpu, why and at, each with a space.
+const PACKET_STEPS: &[u8] = &[2, 2, 4, 6, 5, 5, 5, 4, 4, 3];
+
+// The bytes of r, app, rxq, cpu, pick, head, tail, tx, why, at and port, each with a space.
+const REPLY_STEPS: &[u8] = &[2, 4, 4, 4, 5, 5, 5, 3, 4, 3, 5];
+
 /// The lines of packets.
 pub struct Packets;
 
@@ -60,6 +66,8 @@ impl Section<SeenPacket> for Packets {
 
     ghost shows = { ShowsPacket };
 
+    ghost gives = { GivesPacket };
+
     fn word(&self) -> &'static [u8] {
         b"p".as_slice()
     }
@@ -68,13 +76,17 @@ impl Section<SeenPacket> for Packets {
         SHORTEST_PACKET
     }
 
+    fn steps(&self) -> &'static [u8] {
+        PACKET_STEPS
+    }
+
     fn item(&self, fields: &Fields<'_>) -> SeenPacket {
         let put = put(fields);
         let behind = put_end(put);
         SeenPacket {
-            queue: RxQueue(byte(fields.at(3))),
-            via: via(fields.at(5)),
-            choice: choice(fields, maybe_word(fields.at(7))),
+            queue: RxQueue(byte(fields.at(1))),
+            via: via(fields.at(2)),
+            choice: choice(fields, maybe_word(fields.at(3))),
             put,
             app: AppId(byte(fields.at(behind + 1))),
             inbox: maybe_word(fields.at(behind + 3)),
@@ -89,6 +101,8 @@ impl Section<SeenReply> for Replies {
 
     ghost shows = { ShowsReply };
 
+    ghost gives = { GivesReply };
+
     fn word(&self) -> &'static [u8] {
         b"r".as_slice()
     }
@@ -97,14 +111,18 @@ impl Section<SeenReply> for Replies {
         SHORTEST_REPLY
     }
 
+    fn steps(&self) -> &'static [u8] {
+        REPLY_STEPS
+    }
+
     fn item(&self, fields: &Fields<'_>) -> SeenReply {
         SeenReply {
-            id: PacketId(word(fields.at(1))),
-            rxq: RxQueue(byte(fields.at(5))),
-            cpu: Cpu(byte(fields.at(7))),
+            id: PacketId(word(fields.at(0))),
+            rxq: RxQueue(byte(fields.at(2))),
+            cpu: Cpu(byte(fields.at(3))),
             choice: choice(fields, None),
-            put: maybe_word(fields.at(19)),
-            port: maybe_word(fields.at(21)),
+            put: maybe_word(fields.at(9)),
+            port: maybe_word(fields.at(10)),
         }
     }
 }

@@ -12,42 +12,42 @@ use steer_base::{DropCause, Put};
 fn cause(fields: &Fields<'_>) -> DropCause
     ensures { (c : ACause) → ShowsCause fields.now c → result ≡ c }
 {
-    if fields.at(23) == b"flow".as_slice() {
-        DropCause::Flow(word(fields.at(24)))
+    if fields.at(13) == b"flow".as_slice() {
+        DropCause::Flow(word(fields.at(14)))
     } else {
         DropCause::Full
     }
 }
 
-/// The result of the put that the line of a packet shows, if there was one.
+/// The result of the put that the values of a packet show, if there was one.
 pub fn put(fields: &Fields<'_>) -> Option<Put>
     ensures { (o : Option APut) → ShowsPut fields.now o → result ≡ o }
 {
-    let first = fields.at(19);
+    let first = fields.at(9);
     if first == b"-".as_slice() {
         return None;
     }
     if first == b"drop".as_slice() {
         return Some(Put::Dropped {
-            number: word(fields.at(20)),
-            accepted: word(fields.at(21)),
-            pulled: word(fields.at(22)),
+            number: word(fields.at(10)),
+            accepted: word(fields.at(11)),
+            pulled: word(fields.at(12)),
             cause: cause(fields),
         });
     }
     Some(Put::At(word(first)))
 }
 
-/// How many fields there are before those of the application.
+/// How many values there are before the word of the application.
 pub fn put_end(put: Option<Put>) -> usize
     ensures { result ≡ end_of put }
 {
     match put {
-        None => 20,
-        Some(Put::At(_)) => 20,
+        None => 10,
+        Some(Put::At(_)) => 10,
         Some(Put::Dropped { cause, .. }) => match cause {
-            DropCause::Full => 23,
-            DropCause::Flow(_) => 25,
+            DropCause::Full => 13,
+            DropCause::Flow(_) => 15,
         },
     }
 }

@@ -1,7 +1,9 @@
 //! The sections of a report: lines of one kind, one after the other.
 ghost use Rattle.std.specs.Prelude.{◌≡◌, ◌≤◌, ◌+◌, ◌*◌, ℕ, List, length, IfOk};
 ghost use Rattle.report_reader.specs.Sections.{Reads};
+ghost use Rattle.report_reader.specs.Values.{HasSteps, values_of};
 
+use crate::ends::first_field;
 use crate::fields::Fields;
 use std::alloc::Global;
 use steer_base::OutOfMemory;
@@ -17,6 +19,9 @@ pub trait Section<T> {
     /// Whether the fields of a line show an item.
     ghost shows: { T → List (List ℕ) → Type 0 };
 
+    /// Whether the values of a line show an item.
+    ghost gives: { T → List (List ℕ) → Type 0 };
+
     /// The first field of each line.
     fn word(&self) -> &'static [u8]
         ensures { result.now ≡ first };
@@ -25,9 +30,14 @@ pub trait Section<T> {
     fn shortest(&self) -> usize
         ensures { result ≡ least };
 
-    /// What a line with these fields shows.
-    fn item(&self, fields: &Fields<'_>) -> T
-        ensures { (item : T) → shows item fields.now → result ≡ item };
+    /// The bytes of the words before the first values of a line, each with its space.
+    fn steps(&self) -> &'static [u8]
+        ensures { (item : T) (fields : List (List ℕ)) → shows item fields
+            → HasSteps result.now fields × gives item (values_of result.now fields) };
+
+    /// What a line with these values shows.
+    fn item(&self, values: &Fields<'_>) -> T
+        ensures { (item : T) → gives item values.now → result ≡ item };
 }
 
 /// What the lines of a section show, and where the next section begins.
@@ -56,22 +66,22 @@ pub fn read_section<T: Drop, S: Section<T>>(
     ensures reads { IfOk result
         (λ part. Reads S.first S.least S.shows bytes.now at most part.items.items part.next) }
 {
-    let mut fields = Fields::make(alloc);
+    let mut values = Fields::make(alloc);
     let mut items = Vec::new(alloc);
     let mut next = at;
     while next < bytes.len() {
         if items.len() == most {
             return Ok(Part { items, next });
         }
-        let after = fields.read(bytes, next)?;
-        let is_own = fields.at(0) == of.word();
+        let is_own = first_field(bytes, next) == of.word();
         if !is_own {
             return Ok(Part { items, next });
         }
+        let after = values.read_values(bytes, next, of.steps())?;
         if after - next < of.shortest() {
             return Ok(Part { items, next });
         }
-        items.push(of.item(&fields))?;
+        items.push(of.item(&values))?;
         next = after;
     }
     Ok(Part { items, next })

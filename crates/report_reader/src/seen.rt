@@ -1,4 +1,4 @@
-//! What the line of a packet and the line of a reply show.
+//! What the values of a packet and those of a reply show.
 ghost use Rattle.std.specs.Prelude.{◌≡◌, Option};
 ghost use Rattle.steer_base.specs.declared.choice.Choice.{Choice as AChoice};
 ghost use Rattle.report_reader.specs.Seen.{ShowsChoice};
@@ -7,21 +7,21 @@ use crate::fields::Fields;
 use crate::values::{maybe_byte, maybe_word, why};
 use steer_base::Choice;
 
-/// The choice of a lane that a line shows, with this class.
+/// The choice of a lane that values show, with this class.
 pub fn choice(fields: &Fields<'_>, class: Option<u32>) -> Option<Choice>
     ensures { (o : Option AChoice) → ShowsChoice fields.now class o → result ≡ o }
 {
-    let Some(lane) = maybe_byte(fields.at(15)) else {
+    let Some(lane) = maybe_byte(fields.at(7)) else {
         return None;
     };
-    let Some(why) = why(fields.at(17)) else {
+    let Some(why) = why(fields.at(8)) else {
         return None;
     };
     Some(Choice {
         class,
-        want: maybe_byte(fields.at(9)),
-        head: maybe_word(fields.at(11)),
-        tail: maybe_word(fields.at(13)),
+        want: maybe_byte(fields.at(4)),
+        head: maybe_word(fields.at(5)),
+        tail: maybe_word(fields.at(6)),
         lane,
         why,
     })

@@ -22,6 +22,7 @@ pub struct SeenList {
     replies: Vec<SeenReply>,
     // From 1, and 0 for a packet without a reply.
     numbers: Vec<u32>,
+    ghost one_each: { length numbers.items ≡ length packets.items },
 }
 
 impl Model for SeenList {
@@ -114,11 +115,7 @@ impl SeenList {
     pub fn len(&self) -> usize
         ensures { result ≡ length self.now }
     {
-        if self.numbers.len() <= self.packets.len() {
-            self.numbers.len()
-        } else {
-            self.packets.len()
-        }
+        self.packets.len()
     }
 
     /// The line of a packet.

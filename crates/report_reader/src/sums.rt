@@ -64,12 +64,18 @@ impl Section<u32> for Queues {
 
     ghost shows = { ShowsTaken };
 
+    ghost gives = { ShowsTaken };
+
     fn word(&self) -> &'static [u8] {
         b"queue".as_slice()
     }
 
     fn shortest(&self) -> usize {
         SHORTEST_QUEUE
+    }
+
+    fn steps(&self) -> &'static [u8] {
+        &[]
     }
 
     fn item(&self, fields: &Fields<'_>) -> u32 {
@@ -84,12 +90,18 @@ impl Section<LaneSums> for Cpus {
 
     ghost shows = { ShowsSums };
 
+    ghost gives = { ShowsSums };
+
     fn word(&self) -> &'static [u8] {
         b"cpu".as_slice()
     }
 
     fn shortest(&self) -> usize {
         SHORTEST_CPU
+    }
+
+    fn steps(&self) -> &'static [u8] {
+        &[]
     }
 
     fn item(&self, fields: &Fields<'_>) -> LaneSums {
@@ -104,12 +116,18 @@ impl Section<LaneSums> for Txs {
 
     ghost shows = { ShowsSums };
 
+    ghost gives = { ShowsSums };
+
     fn word(&self) -> &'static [u8] {
         b"tx".as_slice()
     }
 
     fn shortest(&self) -> usize {
         SHORTEST_TX
+    }
+
+    fn steps(&self) -> &'static [u8] {
+        &[]
     }
 
     fn item(&self, fields: &Fields<'_>) -> LaneSums {
@@ -124,12 +142,18 @@ impl Section<AppWrite> for Writes {
 
     ghost shows = { ShowsWrite };
 
+    ghost gives = { ShowsWrite };
+
     fn word(&self) -> &'static [u8] {
         b"w".as_slice()
     }
 
     fn shortest(&self) -> usize {
         SHORTEST_WRITE
+    }
+
+    fn steps(&self) -> &'static [u8] {
+        &[]
     }
 
     fn item(&self, fields: &Fields<'_>) -> AppWrite {

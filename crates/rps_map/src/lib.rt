@@ -2,5 +2,7 @@
 #![tactic(auto)]
 
 mod choice;
+mod map;
 
 pub use choice::rps_choice;
+pub use map::RpsMap;

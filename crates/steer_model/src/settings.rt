@@ -12,7 +12,7 @@ ghost use Rattle.xps_map.specs.Maps.{picked};
 
 use crate::setup::Given;
 use plan_reader::{Plan, QueuePlan, TxPlan};
-use rps_map::rps_choice;
+use rps_map::RpsMap;
 use rss_table::Reta;
 use std::alloc::Global;
 use std::marker::Model;
@@ -22,7 +22,7 @@ use xps_map::XpsMaps;
 /// What commands change (kernel scaling chapter, sections RSS, RPS, RFS and XPS).
 #[derive(Drop)]
 pub struct InForce {
-    masks: Vec<CpuMask>,
+    masks: Vec<RpsMap>,
     counts: Vec<u32>,
     sock: u32,
     online: CpuMask,
@@ -88,7 +88,7 @@ impl InForce {
         requires { q < length self.old.masks }
         ensures { self.new ≡ record self.old { masks = slice_set self.old.masks q mask } }
     {
-        self.masks[q.0 as usize] = mask;
+        self.masks[q.0 as usize] = RpsMap::of_mask(mask);
     }
 
     // Sets the flow count of a receive queue, rounded up to a power of two.
@@ -197,8 +197,7 @@ impl InForce {
         requires masks { q < length self.now.masks }
         ensures { result ≡ plain_cpu given.now self.now q id }
     {
-        let mask = self.masks[q as usize];
-        rps_choice(mask, given.hash_of(id), self.online, given.home(q))
+        self.masks[q as usize].choice(given.hash_of(id), self.online, given.home(q))
     }
 
     /// The transmit queue that the maps pick for a packet that was received on `rxq` and is sent
@@ -227,10 +226,15 @@ impl InForce {
 }
 
 // The processors of each receive queue.
-fn masks_of(alloc: Global, queues: &[QueuePlan]) -> Result<Vec<CpuMask>, OutOfMemory>
+fn masks_of(alloc: Global, queues: &[QueuePlan]) -> Result<Vec<RpsMap>, OutOfMemory>
     ensures { IfOk result (λ masks. masks.items ≡ map (λ queue. queue.mask) queues.now) }
 {
-    Ok(queues.iter().map(|queue| queue.mask).collect(alloc)?)
+    Ok(
+        queues
+            .iter()
+            .map(|queue| RpsMap::of_mask(queue.mask))
+            .collect(alloc)?,
+    )
 }
 
 // The processors of all applications.

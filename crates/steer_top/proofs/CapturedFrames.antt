@@ -1,18 +1,15 @@
 -- The packets of a capture's records are those of its frames.
-use Rattle.std.proofs.Common.{◌≡◌, ◌≤◌, ℕ, ◌+◌, ◌-◌, All, List, [], ◌∷◌, Ok, length, map, take}
-use Rattle.std.proofs.Common.{drop}
-use Rattle.std.proofs.Common.{◌∙◌, ap, arith, inl, inr, length-drop, refl, subst, sym}
-use Rattle.std.proofs.lemmas.List.Elements.{All-append, All-cons, All-nil}
+use Rattle.std.proofs.Common.{◌≡◌, ℕ, ◌+◌, ◌-◌, All, Bool, false, List, [], ◌∷◌, ◌++◌, Ok, map}
+use Rattle.std.proofs.Common.{drop, take}
+use Rattle.std.proofs.Common.{◌∙◌, ap, append-nil, append_assoc, arith, inl, inr, refl, subst, sym}
 use Rattle.pcap_reader.proofs.Rows.{within_result}
 use Rattle.pcap_reader.specs.Captures.{FrameIsWithin, frame_of}
 use Rattle.pcap_reader.specs.declared.capture.Capture.{Capture}
 use Rattle.pcap_reader.specs.declared.record.PcapRecord.{PcapRecord}
-use Rattle.pcapng_reader.proofs.Placed.{PacketFits, placed}
+use Rattle.pcapng_reader.proofs.Walk.{Walked, walked_more, walked_start}
 use Rattle.pcapng_reader.specs.Captures.{End, Reads, file_start, no_section, packets_in, packets_of}
-use Rattle.pcapng_reader.specs.Captures.{place_behind, section_behind}
+use Rattle.pcapng_reader.specs.Captures.{section_behind}
 use Rattle.pcapng_reader.specs.declared.block.Block.{Block}
-use Rattle.pcapng_reader.specs.declared.content.Content.{Content}
-use Rattle.pcapng_reader.specs.declared.content.Content.TheVariants as content
 use Rattle.pcapng_reader.specs.declared.place.Place.{Place}
 use Rattle.pcapng_reader.specs.declared.section.Section.{Section}
 use Rattle.steer_model.proofs.Capture.RecordLemmas.{packets-of-records}
@@ -21,34 +18,26 @@ use Rattle.steer_model.specs.Capture.Packets.{frame_of as frame_at}
 use Rattle.steer_base.specs.declared.packet.Packet.{Packet}
 use Rattle.steer_top.specs.Captures.{HasAnyCapture}
 
--- the frame of a block that is within the file is within it
-within_block : (file : List ℕ) (place : Place) (len : ℕ) (c : Content)
-    → place.start + len ≤ length file → PacketFits place len c
-    → All (FrameIsWithin file) (packets_in c)
-within_block file place len (content.Section big) inside fits = All-nil (FrameIsWithin file)
-within_block file place len (content.Interface i) inside fits = All-nil (FrameIsWithin file)
-within_block file place len (content.Packet r) inside fits =
-    All-cons (FrameIsWithin file) r [] (omega (arith, fits.1, inside))
-    (All-nil (FrameIsWithin file))
-within_block file place len content.Other inside fits = All-nil (FrameIsWithin file)
-
-within_blocks : (file : List ℕ) (section : Section) (place : Place) (bytes : List ℕ)
-    (blocks : List Block) (end : End) → place.start + length bytes ≤ length file
-    → Reads section place bytes blocks end → All (FrameIsWithin file) (packets_of blocks)
-within_blocks file section place bytes [] end inside reads = All-nil (FrameIsWithin file)
-within_blocks file section place bytes (b ∷ bs) end inside (some, is, rest) =
-    let p = placed section place bytes b is in
-    All-append (FrameIsWithin file) (packets_in b.content) (packets_of bs)
-    (within_block file place b.len b.content (omega (arith, inside, p.whole)) p.packet)
-    (within_blocks file (section_behind section b.content) (place_behind place b)
-    (drop b.len bytes) bs end (omega (arith, inside, p.whole, length-drop b.len bytes)) rest)
+-- the frames before a walk's end are within the file, and so are those behind it
+within_walk : (bytes : List ℕ) (section : Section) (place : Place) (records : List PcapRecord)
+    (big : Bool) (rest : List ℕ) (blocks : List Block) (end : End)
+    → Walked bytes section place records big rest → Reads section place rest blocks end
+    → All (FrameIsWithin bytes) (records ++ packets_of blocks)
+within_walk bytes section place records big rest [] end w reads =
+    subst (All (FrameIsWithin bytes)) (sym (append-nil records)) w.within
+within_walk bytes section place records big rest (b ∷ bs) end w (some, is, behind) =
+    subst (All (FrameIsWithin bytes))
+    (append_assoc records (packets_in b.content) (packets_of bs))
+    (within_walk bytes (section_behind section b.content) _ _ _ _ bs end
+    (walked_more bytes section place records big rest b w some is) behind)
 
 -- each frame of a capture is within its bytes
 pub frames-within : (bytes : List ℕ) (capture : Capture) → HasAnyCapture bytes capture
     → All (FrameIsWithin bytes) capture.records
 frames-within bytes capture (inl has) =
     subst (All (FrameIsWithin bytes)) (sym has.packets)
-    (within_blocks bytes no_section file_start bytes has.blocks _ (omega arith) has.read)
+    (within_walk bytes no_section file_start [] false bytes has.blocks _ (walked_start bytes)
+    has.read)
 frames-within bytes capture (inr (other, has)) = within_result bytes (Ok capture) has
 
 -- the frame of a record, from its first byte to its last

@@ -10,6 +10,7 @@ use Rattle.steer_base.specs.declared.flow.Flow.TheVariants.{Bare}
 use Rattle.steer_top.specs.FrameLists.{TakesFlows, TakesPlaced}
 use Rattle.steer_top.specs.HashText.{all_lines, flow_line, frame_line, numbered_text}
 use Rattle.steer_top.specs.PlaceText.{place_line, placed_flow, placed_line}
+use Rattle.steer_top.specs.PlacedLists.{not_placed}
 use Rattle.steer_top.specs.declared.hasher.Hasher.{Hasher}
 use Rattle.steer_top.specs.declared.placer.Placer.{Placer}
 use Rattle.steer_top.proofs.Lines.{numbered_text-is}
@@ -59,40 +60,20 @@ hashed-text first hasher bytes capture cut taken cuts =
 
 pub placed-text : (first placer : Placer) (bytes : List ℕ) (capture : Capture) (cut : Option ℕ)
     → TakesPlaced first (map (frame_of bytes) capture.records) placer → cut ≡ capture.cut
-    → numbered_text (λ n. placed_line placer.rules n (record {
-      flow = get_or placer.flows n Bare;
-      depth = get_or placer.depths.items n 0;
-    }))
-    (length placer.flows) cut
+    → numbered_text (λ n. placed_line placer.rules n (get_or placer.placed n not_placed))
+    (length placer.placed) cut
     ≡ all_lines (place_line first.rules) bytes capture
 unfolding place_line placed_line
 placed-text first placer bytes capture cut taken cuts =
     numbered_text-is (place_line first.rules) bytes _ capture
-    (length placer.flows) cut no_record same
-    (ap length taken.flows
-    ∙ many_found (λ frame. (placed_flow first.rules frame).flow) bytes capture.records) cuts
+    (length placer.placed) cut no_record same
+    (ap length taken.placed ∙ many_found (placed_flow first.rules) bytes capture.records) cuts
   where
     same : (n : ℕ) → n < length capture.records
-        → placed_line placer.rules n (record {
-          flow = get_or placer.flows n Bare;
-          depth = get_or placer.depths.items n 0;
-        })
+        → placed_line placer.rules n (get_or placer.placed n not_placed)
         ≡ place_line first.rules n (frame_of bytes (get_or capture.records n no_record))
     same n h =
-        ap (λ rules. placed_line rules n (record {
-          flow = get_or placer.flows n Bare;
-          depth = get_or placer.depths.items n 0;
-        })) taken.rules
-        ∙ ap (λ f. placed_line first.rules n (record {
-          flow = f;
-          depth = get_or placer.depths.items n 0;
-        }))
-        (ap (λ fs. get_or fs n Bare) taken.flows
-        ∙ of_frame (λ frame. (placed_flow first.rules frame).flow) bytes capture.records Bare n h)
-        ∙ ap (λ d. placed_line first.rules n (record {
-          flow = (placed_flow first.rules
-              (frame_of bytes (get_or capture.records n no_record))).flow;
-          depth = d;
-        }))
-        (ap (λ ds. get_or ds n 0) taken.depths
-        ∙ of_frame (λ frame. (placed_flow first.rules frame).depth) bytes capture.records 0 n h)
+        ap (λ rules. placed_line rules n (get_or placer.placed n not_placed)) taken.rules
+        ∙ ap (λ placed. placed_line first.rules n (get_or placed n not_placed)) taken.placed
+        ∙ ap (placed_line first.rules n)
+        (of_frame (placed_flow first.rules) bytes capture.records not_placed n h)

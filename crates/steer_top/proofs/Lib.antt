@@ -13,6 +13,7 @@ pub mod Headlines
 pub mod Inputs
 pub mod Lines
 pub mod MemoryCalls
+pub mod PlacedLists
 pub mod Plans
 pub mod SameCalls
 pub mod Statuses

@@ -15,8 +15,6 @@ pub record TakesFlows (first : Hasher) (frames : List (List ℕ)) (hasher : Hash
 -- The first has no flows, and the second has those of these frames and the levels that were entered
 -- to reach them, by the same rules.
 pub record TakesPlaced (first : Placer) (frames : List (List ℕ)) (placer : Placer) : Type 0 where
-  pub empty : first.flows ≡ []
-  pub no_depths : first.depths.items ≡ []
+  pub empty : first.placed ≡ []
   pub rules : placer.rules ≡ first.rules
-  pub flows : placer.flows ≡ map (λ frame. (placed_flow first.rules frame).flow) frames
-  pub depths : placer.depths.items ≡ map (λ frame. (placed_flow first.rules frame).depth) frames
+  pub placed : placer.placed ≡ map (placed_flow first.rules) frames

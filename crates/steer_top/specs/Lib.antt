@@ -3,6 +3,7 @@ pub mod Commands
 pub mod Captures
 pub mod Files
 pub mod FlowLists
+pub mod PlacedLists
 pub mod HashText
 pub mod PlaceText
 pub mod FrameLists

@@ -2,13 +2,14 @@
 ghost use Rattle.std.specs.Prelude.{◌≡◌, ◌<◌, ◌^◌, [], ◌∷◌, ◌++◌, length, get_or, IfOk, OnOk};
 ghost use Rattle.std.specs.Prelude.{OnErr};
 ghost use Rattle.steer_base.specs.declared.flow.Flow.TheVariants.{Bare};
-ghost use Rattle.steer_top.specs.FlowLists.{IsEntryOf, IsWithin, flow_of_entry};
+ghost use Rattle.steer_top.specs.FlowLists.{IsEntryOf, IsPairOf, IsWithin, flow_of_entry};
+ghost use Rattle.steer_top.specs.FlowLists.{pair_at};
 
 use std::alloc::Global;
 use std::marker::Model;
 use steer_base::{Flow, OutOfMemory, Pair, Proto};
 
-// A flow, or where it is kept.
+// A flow, with the place of its addresses where they are of IPv6.
 #[derive(Clone, Copy)]
 enum Entry {
     Bare,
@@ -16,30 +17,41 @@ enum Entry {
         src: u32,
         dst: u32,
     },
-    Tcp4 {
+    Four4 {
+        proto: Proto,
         src: u32,
         dst: u32,
         sport: u16,
         dport: u16,
     },
-    Udp4 {
-        src: u32,
-        dst: u32,
+    Two6 {
+        place: u32,
+    },
+    Four6 {
+        proto: Proto,
+        place: u32,
         sport: u16,
         dport: u16,
     },
-    // The place among the flows with IPv6 addresses.
-    Long(u32),
 }
 
 const _: () = prove!(size_of::<Entry>() == 16);
 
-/// A list of flows. A flow without IPv6 addresses takes 16 bytes.
+// The two IPv6 addresses of a flow.
+#[derive(Clone, Copy)]
+struct LongPair {
+    src: u128,
+    dst: u128,
+}
+
+const _: () = prove!(size_of::<LongPair>() == 32);
+
+/// A list of flows. A flow takes 16 bytes, and 32 more if it has IPv6 addresses.
 #[derive(Drop)]
 pub struct FlowList {
     entries: Vec<Entry>,
-    // The flows with IPv6 addresses.
-    long: Vec<Flow>,
+    // The IPv6 addresses of the entries.
+    long: Vec<LongPair>,
 }
 
 impl Model for FlowList {
@@ -65,10 +77,11 @@ impl FlowList {
         }
     }
 
-    /// Appends a flow.
+    /// Appends a flow. If memory runs out, the list stays.
     pub fn push(&mut self, flow: Flow) -> Result<(), OutOfMemory>
         requires few { length self.old < 2 ^ 32 }
-        ensures { OnOk result (self.new ≡ self.old ++ flow ∷ []) }
+        ensures ok { OnOk result (self.new ≡ self.old ++ flow ∷ []) }
+        ensures err { OnErr result (self.new ≡ self.old) }
     {
         self.entries.reserve(1)?;
         let entry = entry_of(&mut self.long, flow)?;
@@ -92,8 +105,8 @@ impl FlowList {
     }
 }
 
-// The entry of a flow. A flow with IPv6 addresses is appended to those that are kept.
-fn entry_of(long: &mut Vec<Flow>, flow: Flow) -> Result<Entry, OutOfMemory>
+// The entry of a flow. Its IPv6 addresses are appended to those that are kept.
+fn entry_of(long: &mut Vec<LongPair>, flow: Flow) -> Result<Entry, OutOfMemory>
     requires few { length long.old.items < 2 ^ 32 }
     ensures ok { IfOk result (IsEntryOf long.old.items long.new.items flow) }
     ensures err { OnErr result (long.new.items ≡ long.old.items) }
@@ -101,46 +114,70 @@ fn entry_of(long: &mut Vec<Flow>, flow: Flow) -> Result<Entry, OutOfMemory>
     match flow {
         Flow::Bare => Ok(Entry::Bare),
         Flow::Two(Pair::V4 { src, dst }) => Ok(Entry::Two4 { src, dst }),
-        Flow::Four(Pair::V4 { src, dst }, Proto::Tcp, sport, dport) => Ok(Entry::Tcp4 {
+        Flow::Four(Pair::V4 { src, dst }, proto, sport, dport) => Ok(Entry::Four4 {
+            proto,
             src,
             dst,
             sport,
             dport,
         }),
-        Flow::Four(Pair::V4 { src, dst }, Proto::Udp, sport, dport) => Ok(Entry::Udp4 {
-            src,
-            dst,
-            sport,
-            dport,
-        }),
-        Flow::Two(Pair::V6 { .. }) | Flow::Four(Pair::V6 { .. }, _, _, _) => {
-            let number = long.len() as u32;
-            long.push(flow)?;
-            Ok(Entry::Long(number))
+        Flow::Two(Pair::V6 { src, dst }) => {
+            let place = keep(long, src, dst)?;
+            Ok(Entry::Two6 { place })
+        }
+        Flow::Four(Pair::V6 { src, dst }, proto, sport, dport) => {
+            let place = keep(long, src, dst)?;
+            Ok(Entry::Four6 {
+                proto,
+                place,
+                sport,
+                dport,
+            })
         }
     }
 }
 
+// Appends two addresses, and returns their place.
+fn keep(long: &mut Vec<LongPair>, src: u128, dst: u128) -> Result<u32, OutOfMemory>
+    requires few { length long.old.items < 2 ^ 32 }
+    ensures ok { IfOk result (IsPairOf long.old.items long.new.items src dst) }
+    ensures err { OnErr result (long.new.items ≡ long.old.items) }
+{
+    let place = long.len() as u32;
+    long.push(LongPair { src, dst })?;
+    Ok(place)
+}
+
 // The flow of an entry.
-fn flow_of_entry(long: &[Flow], entry: Entry) -> Flow
+fn flow_of_entry(long: &[LongPair], entry: Entry) -> Flow
     requires { IsWithin long.now entry }
     ensures { result ≡ flow_of_entry long.now entry }
 {
     match entry {
         Entry::Bare => Flow::Bare,
         Entry::Two4 { src, dst } => Flow::Two(Pair::V4 { src, dst }),
-        Entry::Tcp4 {
+        Entry::Four4 {
+            proto,
             src,
             dst,
             sport,
             dport,
-        } => Flow::Four(Pair::V4 { src, dst }, Proto::Tcp, sport, dport),
-        Entry::Udp4 {
-            src,
-            dst,
+        } => Flow::Four(Pair::V4 { src, dst }, proto, sport, dport),
+        Entry::Two6 { place } => Flow::Two(pair_at(long, place)),
+        Entry::Four6 {
+            proto,
+            place,
             sport,
             dport,
-        } => Flow::Four(Pair::V4 { src, dst }, Proto::Udp, sport, dport),
-        Entry::Long(number) => long[number as usize],
+        } => Flow::Four(pair_at(long, place), proto, sport, dport),
     }
+}
+
+// The two addresses at a place.
+fn pair_at(long: &[LongPair], place: u32) -> Pair
+    requires { place < length long.now }
+    ensures { result ≡ pair_at long.now place }
+{
+    let LongPair { src, dst } = long[place as usize];
+    Pair::V6 { src, dst }
 }

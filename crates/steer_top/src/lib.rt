@@ -16,6 +16,7 @@ mod input;
 mod laws;
 mod live;
 mod place_command;
+mod placed_list;
 mod placer;
 mod replay_command;
 mod report_text;

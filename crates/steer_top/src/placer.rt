@@ -2,13 +2,13 @@
 ghost use Rattle.std.specs.Prelude.{◌≡◌, ◌≤◌, ◌+◌, ◌++◌, [], length, get_or, IfOk};
 ghost use Rattle.ntuple_rules.specs.Ranges.{RulesAreWithin};
 ghost use Rattle.rss_table.specs.Redirection.{even_table};
-ghost use Rattle.steer_base.specs.declared.flow.Flow.TheVariants.{Bare};
 ghost use Rattle.steer_top.specs.PlaceText.{hash_for, placed_flow, placed_line, queue_by};
 ghost use Rattle.steer_top.specs.PlaceText.{rule_text};
+ghost use Rattle.steer_top.specs.PlacedLists.{not_placed};
 ghost use Rattle.toeplitz.specs.Toeplitz.{verification_key};
 
-use crate::flow_list::FlowList;
 use crate::hash_line::push_packet;
+use crate::placed_list::PlacedList;
 use crate::writing::PacketLine;
 use flow_dissector::dissect;
 use ntuple_rules::{Classifier, Rules, fold};
@@ -28,8 +28,7 @@ pub struct Placer {
     classifier: Classifier,
     key: TabledKey,
     table: Reta,
-    flows: FlowList,
-    depths: Vec<u8>,
+    placed: PlacedList,
     ghost all: { classifier ≡ rules.rules },
     ghost verified: { key ≡ verification_key },
     ghost even: { table ≡ even_table rules.queues },
@@ -40,8 +39,7 @@ impl Placer {
     pub fn make(alloc: Global, rules: Rules) -> Result<Placer, OutOfMemory>
         requires { RulesAreWithin rules }
         ensures rules { IfOk result (λ placer. placer.rules ≡ rules) }
-        ensures empty { IfOk result (λ placer. placer.flows ≡ []) }
-        ensures no_depths { IfOk result (λ placer. placer.depths.items ≡ []) }
+        ensures empty { IfOk result (λ placer. placer.placed ≡ []) }
     {
         let classifier = Classifier::make(alloc, &rules)?;
         let key = TabledKey::make(alloc, &verification_key())?;
@@ -51,8 +49,7 @@ impl Placer {
             classifier,
             key,
             table,
-            flows: FlowList::new(alloc),
-            depths: Vec::new(alloc),
+            placed: PlacedList::new(alloc),
         })
     }
 
@@ -68,13 +65,6 @@ impl Placer {
                 depth: 0,
             }
         }
-    }
-
-    /// How many levels were entered for the packet with this number.
-    fn depth_of(&self, number: usize) -> u8
-        ensures { result ≡ get_or self.now.depths.items number 0 }
-    {
-        self.depths.as_slice().get(number).copied().unwrap_or(0)
     }
 
     /// The hash of a flow.
@@ -127,34 +117,30 @@ impl FrameSink for Placer {
     /// Appends the flow of a frame, and how many levels were entered.
     fn take(&mut self, frame: &[u8]) -> Result<(), OutOfMemory> {
         let placed = self.flow_of(frame);
-        self.flows.push(placed.flow)?;
-        self.depths.push(placed.depth)?;
-        Ok(())
+        self.placed.push(placed)
     }
 }
 
 impl PacketLine for Placer {
-    ghost count = { λ placer. length placer.flows };
+    ghost count = { λ placer. length placer.placed };
 
-    ghost text = { λ placer number. placed_line placer.rules number (record {
-      flow = get_or placer.flows number Bare;
-      depth = get_or placer.depths.items number 0;
-    }) };
+    ghost text = { λ placer number.
+        placed_line placer.rules number (get_or placer.placed number not_placed) };
 
     fn len(&self) -> usize {
-        self.flows.len()
+        self.placed.len()
     }
 
     #[tactic(auto, unfolding(crate::specs::PlaceText::placed_line))]
     fn push_line(&self, line: &mut LineBuf, number: usize) {
-        let flow = self.flows.get(number);
+        let Inner { flow, depth } = self.placed.get(number);
         let found = self.classifier.find(&flow);
         let hash = self.hash_of(&flow);
         let queue = self.queue_by(found, hash);
         push_packet(line, number as u64, &flow, hash, queue);
         push_rule(line, found);
         line.push(b" depth ");
-        line.push_decimal(u64::from(self.depth_of(number)));
+        line.push_decimal(u64::from(depth));
         line.push(b"\n");
     }
 }

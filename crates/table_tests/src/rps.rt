@@ -1,6 +1,6 @@
 //! The choice of a processor by a mask.
 use crate::equal::same;
-use rps_map::rps_choice;
+use rps_map::{RpsMap, rps_choice};
 use steer_base::{Cpu, CpuMask};
 
 const ALL: CpuMask = CpuMask(0xffff_ffff);
@@ -39,5 +39,7 @@ fn the_home_stays_without_a_choice(rt: HostRuntime) {
     for &(mask, hash, online, home, wanted) in &STAYS {
         let found = rps_choice(CpuMask(mask), hash, CpuMask(online), Cpu(home));
         same(&rt, &(mask, hash, found), &(mask, hash, Cpu(wanted)), 0);
+        let listed = RpsMap::of_mask(CpuMask(mask)).choice(hash, CpuMask(online), Cpu(home));
+        same(&rt, &(mask, hash, listed), &(mask, hash, Cpu(wanted)), 1);
     }
 }

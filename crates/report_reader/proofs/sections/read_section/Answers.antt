@@ -13,22 +13,22 @@ returns-then-len-most-clause-reads g c = λ items rows rest s m o t.
 
 pub returns-then-not-is_own-clause-reads : goal.returns-then-not-is_own-clause-reads
 returns-then-not-is_own-clause-reads g c = λ items rows rest s m o t.
-    section-stops _ _ _ _ _ _ _ _ o _ _ c.in_ok-after.ensures.fields c.in_ok-after.ensures.next
+    section-stops _ _ _ _ _ _ _ _ o _ c.first_field.ensures
     (c.loop-next.invariant.reading items rows rest s m o t)
     (λ e.
-    let same : c.at.result.now ≡ c.word.result.now = c.at.ensures ∙ e ∙ sym c.word.ensures in
+    let same : c.first_field.result.now ≡ c.word.result.now = e ∙ sym c.word.ensures in
     let test : c.eq-is_own.result ≡ true = c.eq-is_own.ensures
-    ∙ (bytes_eq-Decides c.at.result.now c.word.result.now).1 same in
+    ∙ (bytes_eq-Decides c.first_field.result.now c.word.result.now).1 same in
     let no' = c.if-not-is_own.true in cc)
 
 pub returns-then-after-next-clause-reads : goal.returns-then-after-next-clause-reads
 returns-then-after-next-clause-reads g c = λ items rows rest s m o t.
-    let same = (bytes_eq-Decides c.at.result.now c.word.result.now).0 (sym c.eq-is_own.ensures
-    ∙ c.if-not-is_own.false) in
-    let room = section-room _ _ _ _ _ _ _ _ o _ _ c.in_ok-after.ensures.fields
-    c.in_ok-after.ensures.next
-    (c.loop-next.invariant.reading items rows rest s m o t) (sym c.at.ensures ∙ same
-    ∙ c.word.ensures) in
+    let same = (bytes_eq-Decides c.first_field.result.now c.word.result.now).0
+    (sym c.eq-is_own.ensures ∙ c.if-not-is_own.false) in
+    let room = section-room _ _ _ _ _ _ _ _ o _ c.first_field.ensures c.steps.result.now
+    g.S.Section.gives c.steps.ensures _ _
+    c.in_ok-after.ensures.values c.in_ok-after.ensures.next
+    (c.loop-next.invariant.reading items rows rest s m o t) (same ∙ c.word.ensures) in
     let a = length-drop c.in_ok-after.after c.args.bytes.now in
     let b = length-drop c.loop-next.next c.args.bytes.now in
     absurd (omega (
@@ -54,12 +54,12 @@ loop-next-preserved g c = record {
         c.in_ok-after.ensures.after (omega (arith, c.loop-next-test.true)),
       ));
   reading = λ items rows rest s m o t.
-      let same = (bytes_eq-Decides c.at.result.now c.word.result.now).0 (sym c.eq-is_own.ensures
-      ∙ c.if-not-is_own.false) in
-      let n = section-goes _ _ _ _ _ _ _ _ o _ _ c.in_ok-after.ensures.fields
-      c.in_ok-after.ensures.next
-      (c.loop-next.invariant.reading items rows rest s m o t) (sym c.at.ensures ∙ same
-      ∙ c.word.ensures) in
+      let same = (bytes_eq-Decides c.first_field.result.now c.word.result.now).0
+      (sym c.eq-is_own.ensures ∙ c.if-not-is_own.false) in
+      let n = section-goes _ _ _ _ _ _ _ _ o _ c.first_field.ensures c.steps.result.now
+      g.S.Section.gives c.steps.ensures _ _
+      c.in_ok-after.ensures.values c.in_ok-after.ensures.next
+      (c.loop-next.invariant.reading items rows rest s m o t) (same ∙ c.word.ensures) in
       subst (λ done. Left g.S.Section.first g.S.Section.least g.S.Section.shows c.args.bytes.now
       c.in_ok-after.after done items rest)
       (ap (λ x. c.loop-next.items.items ++ (x ∷ [])) (sym (c.item.ensures n.0 n.1))

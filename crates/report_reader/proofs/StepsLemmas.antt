@@ -1,0 +1,206 @@
+-- The values of a line are read one after the other, and the words before them are stepped over.
+use Rattle.std.proofs.Common.{ℕ, zero, suc, min, ◌≡◌, ◌≤◌, ◌+◌, ◌-◌, ◌++◌, ◌⊎◌, List, []}
+use Rattle.std.proofs.Common.{◌∷◌, length, drop, map, refl, ap, ◌∙◌, sym, subst, arith, get_or}
+use Rattle.std.proofs.Common.{append_assoc, inl, inr}
+use Rattle.std.proofs.lemmas.List.{length-append, length-drop, length-map}
+use Rattle.std.specs.Prelude.{slice_index_or}
+use Rattle.report.specs.Texts.{AreFields, further}
+use Rattle.report_reader.specs.Ends.{Going, IsEnd}
+use Rattle.report_reader.specs.Values.{HasSteps, values_of}
+use Rattle.report_reader.proofs.EndsLemmas.{Piece, follows, going-last, going-next, parts-on}
+use Rattle.report_reader.proofs.EndsLemmas.{piece-by, pushed-view}
+
+-- A line that is being read: its fields that are left, and the values that were found.
+pub record Stepping (bytes : List ℕ) (start : ℕ) (steps : List ℕ) (done wanted : List (List ℕ))
+    (rest : List ℕ) : Type 0 where
+  pub left : List (List ℕ)
+  pub line : Going bytes start [] left rest
+  pub has : HasSteps steps left
+  pub joins : done ++ values_of steps left ≡ wanted
+
+-- the same where the next value begins
+pub record AtValue (bytes : List ℕ) (from : ℕ) (steps : List ℕ) (done wanted : List (List ℕ))
+    (rest : List ℕ) : Type 0 where
+  pub value : List ℕ
+  pub more : List (List ℕ)
+  pub line : Going bytes from [] (value ∷ more) rest
+  pub has : HasSteps steps more
+  pub joins : done ++ (value ∷ values_of steps more) ≡ wanted
+
+-- the word before the next value, if there is one
+abbrev Front : List ℕ → ℕ → List ℕ → Type 0
+Front steps n more = ((steps ≡ []) × (more ≡ []) × (n ≡ 0)) ⊎ (steps ≡ n ∷ more)
+
+front : (steps : List ℕ) (i : ℕ) → Front (drop i steps) (slice_index_or steps i 0)
+    (drop (suc i) steps)
+front [] zero = inl (refl, refl, refl)
+front [] (suc i) = inl (refl, refl, refl)
+front (n ∷ steps) zero = inr refl
+front (n ∷ steps) (suc i) = front steps i
+
+module _ (bytes : List ℕ) (start from : ℕ) (done wanted : List (List ℕ)) (rest : List ℕ) where
+  step-none : (n : ℕ) → n ≡ 0 → Stepping bytes start [] done wanted rest
+      → from ≡ start + min n (length bytes - start) → AtValue bytes from [] done wanted rest
+  step-none n z s e =
+      let g = s.line in
+      let here : from ≡ start = omega (arith, e, z) in
+      record {
+        value = g.next;
+        more = g.more;
+        line = record {
+          next = g.next;
+          more = g.more;
+          parts = refl;
+          text = ap (λ k. drop k bytes) here ∙ g.text;
+          is_field = g.is_field;
+          are_fields = g.are_fields;
+        };
+        has = tt;
+        joins = ap (λ l. done ++ l) g.parts ∙ s.joins;
+      }
+
+  over : (n : ℕ) (word : List ℕ) (fields : List (List ℕ)) (more : List ℕ)
+      → drop start bytes ≡ word ++ (further fields ++ rest) → AreFields fields
+      → HasSteps (n ∷ more) (word ∷ fields)
+      → done ++ values_of (n ∷ more) (word ∷ fields) ≡ wanted
+      → from ≡ start + min n (length bytes - start) → AtValue bytes from more done wanted rest
+  over n word [] more t fs h j e = absurd h
+  over n word (value ∷ fields) more t fs h j e =
+      let tail = (value ++ further fields) ++ rest in
+      let a : length (drop start bytes) ≡ length word + suc (length tail) =
+      ap length t ∙ length-append word (32 ∷ tail) in
+      let b = length-drop start bytes in
+      let k = h.0 in
+      let here : from ≡ (start + length word) + 1 = omega (arith, e, k, a, b) in
+      record {
+        value = value;
+        more = fields;
+        line = record {
+          next = value;
+          more = fields;
+          parts = refl;
+          text = ap (λ i. drop i bytes) here
+              ∙ follows bytes word tail start (start + length word) 32 refl t
+              ∙ append_assoc value (further fields) rest;
+          is_field = fs.0;
+          are_fields = fs.1;
+        };
+        has = h.1;
+        joins = j;
+      }
+
+  step-word : (n : ℕ) (more : List ℕ) → Stepping bytes start (n ∷ more) done wanted rest
+      → from ≡ start + min n (length bytes - start) → AtValue bytes from more done wanted rest
+  step-word n more s e =
+      let g = s.line in
+      over n g.next g.more more g.text g.are_fields
+      (subst (HasSteps (n ∷ more)) (sym g.parts) s.has)
+      (ap (λ l. done ++ values_of (n ∷ more) l) g.parts ∙ s.joins) e
+
+  step-by : (steps more : List ℕ) (n : ℕ) → Front steps n more
+      → Stepping bytes start steps done wanted rest
+      → from ≡ start + min n (length bytes - start) → AtValue bytes from more done wanted rest
+  step-by steps more n (inl f) s e =
+      subst (λ m. AtValue bytes from m done wanted rest) (sym f.1)
+      (step-none n f.2 (subst (λ k. Stepping bytes start k done wanted rest) f.0 s) e)
+  step-by steps more n (inr f) s e =
+      step-word n more (subst (λ k. Stepping bytes start k done wanted rest) f s) e
+
+  -- the word before the next value is stepped over
+  pub step-over : (steps : List ℕ) (i j n : ℕ) → j ≡ i → n ≡ slice_index_or steps j 0
+      → Stepping bytes start (drop i steps) done wanted rest
+      → from ≡ start + min n (length bytes - start)
+      → AtValue bytes from (drop (suc i) steps) done wanted rest
+  step-over steps i j n l w s e =
+      let same : n ≡ slice_index_or steps i 0 = w ∙ ap (λ k. slice_index_or steps k 0) l in
+      step-by (drop i steps) (drop (suc i) steps) (slice_index_or steps i 0) (front steps i) s
+      (e ∙ ap (λ k. start + min k (length bytes - start)) same)
+
+-- no step is left behind the last value
+last-value : (steps : List ℕ) (more : List (List ℕ)) → HasSteps steps more → more ≡ []
+    → values_of steps more ≡ []
+last-value [] more h e = e
+last-value (n ∷ steps) [] h e = absurd h
+last-value (n ∷ steps) (w ∷ []) h e = refl
+last-value (n ∷ steps) (w ∷ v ∷ more) h e = absurd (cc)
+
+head-same : (x y : List ℕ) (xs ys : List (List ℕ)) → x ∷ xs ≡ y ∷ ys → x ≡ y
+head-same x y xs ys e = ap (λ l. slice_index_or l 0 x) e
+
+tail-same : (x y : List ℕ) (xs ys : List (List ℕ)) → x ∷ xs ≡ y ∷ ys → xs ≡ ys
+tail-same x y xs ys e = ap (drop 1) e
+
+module _ (bytes : List ℕ) (from end : ℕ) (steps : List ℕ) (done wanted : List (List ℕ))
+    (rest : List ℕ) (is : IsEnd bytes from end) (v : AtValue bytes from steps done wanted rest)
+  where
+    pub value-last : get_or bytes end 0 ≡ 10
+        → (done ++ (Piece bytes from end ∷ []) ≡ wanted) × (drop (end + 1) bytes ≡ rest)
+    value-last e =
+        let l = going-last bytes from end [] (v.value ∷ v.more) rest is v.line e in
+        let none : v.more ≡ [] = sym (tail-same _ _ _ _ l.0) in (
+          ap (λ x. done ++ (x ∷ [])) (head-same _ _ _ _ l.0)
+              ∙ ap (λ xs. done ++ (v.value ∷ xs)) (sym (last-value steps v.more v.has none))
+              ∙ v.joins,
+          l.1,
+        )
+
+    pub value-next : (get_or bytes end 0 ≡ 10 → ⊥)
+        → Stepping bytes (end + 1) steps (done ++ (Piece bytes from end ∷ [])) wanted rest
+    value-next e =
+        let g = going-next bytes from end [] (v.value ∷ v.more) rest is v.line e in
+        let more : g.next ∷ g.more ≡ v.more = tail-same _ _ _ _ g.parts in
+        record {
+          left = v.more;
+          line = record {
+            next = g.next;
+            more = g.more;
+            parts = more;
+            text = g.text;
+            is_field = g.is_field;
+            are_fields = g.are_fields;
+          };
+          has = v.has;
+          joins = parts-on done (Piece bytes from end) (values_of steps v.more)
+              ∙ ap (λ x. done ++ (x ∷ values_of steps v.more)) (head-same _ _ _ _ g.parts)
+              ∙ v.joins;
+        }
+
+-- the values that were found are those of a list
+pub value-pushed : {A : Type 0} (f : A → List ℕ) (bytes : List ℕ) (next : ℕ) (steps : List ℕ)
+    (old new : List A) (x : A) (wanted : List (List ℕ)) (rest : List ℕ) → new ≡ old ++ (x ∷ [])
+    → Stepping bytes next (drop (suc (length old)) steps) (map f old ++ (f x ∷ [])) wanted rest
+    → Stepping bytes next (drop (length new) steps) (map f new) wanted rest
+value-pushed f bytes next steps old new x wanted rest e s =
+    let a : length new ≡ length (old ++ (x ∷ [])) = ap length e in
+    let b = length-append old (x ∷ []) in
+    let longer : length new ≡ suc (length old) = omega (arith, a, b) in
+    subst (λ done. Stepping bytes next (drop (length new) steps) done wanted rest)
+    (sym (pushed-view f old new x e))
+    (subst (λ k. Stepping bytes next (drop k steps) (map f old ++ (f x ∷ [])) wanted rest)
+    (sym longer) s)
+
+few-values : (steps : List ℕ) (fields : List (List ℕ)) → length (values_of steps fields)
+    ≤ length fields
+few-values [] fields = omega arith
+few-values (n ∷ steps) [] = omega arith
+few-values (n ∷ steps) (w ∷ []) = omega arith
+few-values (n ∷ steps) (w ∷ v ∷ more) = let i = few-values steps more in omega (arith, i)
+
+-- a line that goes on has more values than those that were found
+pub full-values : {A : Type 0} (f : A → List ℕ) (bytes : List ℕ) (from : ℕ)
+    (steps all-steps : List ℕ) (done : List A) (all : List (List ℕ)) (rest : List ℕ)
+    → AtValue bytes from steps (map f done) (values_of all-steps all) rest → length all ≤ 40
+    → length done ≡ 40 → ⊥
+full-values f bytes from steps all-steps done all rest v few n =
+    let m : length (map f done) ≡ length done = length-map done f in
+    let l = length-append (map f done) (v.value ∷ values_of steps v.more) in
+    let e = ap length v.joins in
+    let w = few-values all-steps all in
+    omega (arith, m, l, e, w, few, n)
+
+-- the first field of a line
+pub first-field : (bytes : List ℕ) (start end : ℕ) (word : List ℕ) (fields : List (List ℕ))
+    (rest : List ℕ) → IsEnd bytes start end → Going bytes start [] (word ∷ fields) rest
+    → Piece bytes start end ≡ word
+first-field bytes start end word fields rest is g =
+    piece-by bytes start end rest g.next g.more is g.text g.is_field ∙ head-same _ _ _ _ g.parts

@@ -1,0 +1,16 @@
+-- The values of a line: its fields without the words that name the first of them.
+use Rattle.std.specs.Prelude.{ℕ, suc, ◌≡◌, List, [], ◌∷◌, length, ⊤}
+
+-- before each of the first values of a line stands a word, so many bytes with the space behind it
+abbrev pub HasSteps : (steps : List ℕ) → (fields : List (List ℕ)) → Type 0
+HasSteps [] fields = ⊤
+HasSteps (n ∷ steps) [] = ⊥
+HasSteps (n ∷ steps) (word ∷ []) = ⊥
+HasSteps (n ∷ steps) (word ∷ value ∷ more) = (suc (length word) ≡ n) × HasSteps steps more
+
+-- the fields of a line without these words
+abbrev pub values_of : (steps : List ℕ) → (fields : List (List ℕ)) → List (List ℕ)
+values_of [] fields = fields
+values_of (n ∷ steps) [] = []
+values_of (n ∷ steps) (word ∷ []) = []
+values_of (n ∷ steps) (word ∷ value ∷ more) = value ∷ values_of steps more
