@@ -24,22 +24,21 @@ impl Actors {
         ensures rooms { self.new.rooms ≡ self.old.rooms }
     {
         let answer = self.answer_to(&command);
-        self.list(&command, answer)
+        self.list(&command, &answer);
+        answer
     }
 
-    // Lists a command with its answer, and returns the answer.
-    fn list(&mut self, command: &Command, answer: Answer) -> Answer
-        requires text { has_text answer ≡ true }
+    // Lists a command with its answer.
+    fn list(&mut self, command: &Command, answer: &Answer)
+        requires text { has_text answer.now ≡ true }
         requires room { length self.old.machine.commands < self.old.rooms.commands }
-        ensures state { self.new.machine ≡ listed self.old.machine command.now answer }
-        ensures answer { result ≡ answer }
+        ensures state { self.new.machine ≡ listed self.old.machine command.now answer.now }
         ensures rooms { self.new.rooms ≡ self.old.rooms }
     {
         self.commands.push(Commanded {
             command: *command,
-            answer,
+            answer: *answer,
         });
-        answer
     }
 
     // The answer to a command: why it may not be given, else what its gate says. If it is done, its
