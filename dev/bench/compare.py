@@ -26,6 +26,7 @@ RUNS = [
     ["replay", "socks.json", "none.pcap"],
     ["replay", "expires.json", "none.pcap"],
     ["replay", "flows.json", "none.pcap"],
+    ["replay", "filled.json", "filled.pcap"],
     ["place", "rules1069.json", "wide.pcap"],
     ["place", "rules4096.json", "wide.pcap"],
 ]

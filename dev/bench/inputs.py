@@ -84,6 +84,14 @@ def wide(seed):
     }
 
 
+def filled(seed, times):
+    """One `sweep` that sets 4,093 of the 4,096 filters, and so many times `expire`, which finds none old."""
+    plan = wide(seed)
+    for queue in plan["queues"]:
+        queue["flows"] = 32768
+    return dict(plan, apps=[2 * (a % 16) for a in range(32)], steps=["sweep"] + ["expire"] * times)
+
+
 def threads(plan, workers):
     """A plan for a run with so many workers."""
     return dict(plan, workers=workers, steps=[])
@@ -143,6 +151,7 @@ def main():
         "generated": (generated(7, PACKETS), capture(7, PACKETS, 512)),
         "wide": (wide(7), capture(7, PACKETS, 20_000)),
         "swept": (dict(wide(7), steps=["sweep"]), capture(7, PACKETS, 20_000)),
+        "filled": (filled(7, 100_000), capture(7, 65_536, 40_000)),
     }
     plans = {
         "listed": dict(wide(7), steps=step_texts(7, PACKETS * 3)),

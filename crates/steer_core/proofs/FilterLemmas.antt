@@ -1,117 +1,96 @@
--- Filters by their numbers, and lists of them that are counted or changed one by one.
-use Rattle.std.proofs.Common.{ℕ, ◌+◌, ◌<◌, ◌≤◌, ◌≡◌, Bool, false, List, [], ◌∷◌, ◌++◌, Option}
-use Rattle.std.proofs.Common.{None, Some, length, take, drop, map, cond, length-append}
-use Rattle.std.proofs.Common.{refl, ap, ◌∙◌, subst, arith, zero, suc, get_or, add-one}
-use Rattle.std.proofs.lemmas.List.{length-drop, length-map, length-take, take_more}
-use Rattle.std.proofs.lemmas.List.Elements.{filter-append}
-use Rattle.std.specs.Prelude.{slice_index_or, slice_set}
-use Rattle.std.specs.Prelude.{◌%◌, nat_lt, true}
-use Rattle.std.specs.List.{filter}
-use Rattle.std.specs.Slice.Scan.{HoldsNowhere}
-use Rattle.std.proofs.Math.Nat.{mod-eq_of_lt}
-use Rattle.std.proofs.lemmas.Bool.{lt-ltb}
+-- The filters that may be cleared, by copies of the heads and of the flow counts.
+use Rattle.std.proofs.Common.{ℕ, ◌+◌, ◌<◌, ◌≤◌, ◌≡◌, Bool, List, [], ◌∷◌, Option, Some, None}
+use Rattle.std.proofs.Common.{length, map, cond, refl, ap, sym, ◌∙◌, arith, inl, inr}
+use Rattle.std.specs.Prelude.{slice_index, slice_index_or, slice_set}
+use Rattle.std.specs.List.{All, filter}
+use Rattle.std.proofs.lemmas.Bool.{cases_eq}
+use Rattle.std.proofs.lemmas.List.{get_or-set_other, get_or-set_same, length-set}
+use Rattle.std.proofs.lemmas.List.Elements.{All-head, All-tail}
+use Rattle.steer_base.specs.Filters.{may_expire}
 use Rattle.steer_base.specs.declared.filter.Filter.{Filter}
-use Rattle.accel_filter.specs.Table.{filter_of, has_filter}
+use Rattle.accel_filter.specs.Expiry as expiry
+use Rattle.hop_model.specs.Hop.{HopState}
+use Rattle.steer_model.specs.State.Settings.{Settings}
+use Rattle.steer_core.specs.OldFilters.{AreCountsBelow, AreHeadsBelow, FilterIsSeated, is_old}
+use Rattle.steer_core.specs.OldFilters.{kept_of}
 
--- a number below the number of filters finds its own filter
-pub found_at : (filters : List (Option Filter)) (i : ℕ) → i < length filters
-    → filter_of filters i ≡ slice_index_or filters i None
-found_at filters i lt =
-    let some : nat_lt 0 (length filters) ≡ true = lt-ltb 0 (length filters) (omega (arith, lt)) in
-    let same : i % length filters ≡ i = mod-eq_of_lt lt in
-    rw (some, same) refl
+module _ (rx : HopState) (now : Settings) (heads counts : List ℕ)
+    (by_head : AreHeadsBelow rx (length rx.bare.accepted) heads)
+    (by_count : AreCountsBelow now (length now.counts) counts) where
+  same-old : (o : Option Filter) → FilterIsSeated rx now o
+      → expiry.is_old heads counts o ≡ is_old rx now o
+  same-old None seated = refl
+  same-old (Some filter) seated =
+      ap (λ head. may_expire filter head (slice_index counts filter.queue))
+      (by_head filter.cpu seated.0)
+      ∙ ap (may_expire filter _) (by_count filter.queue seated.1)
 
-module _ {X : Type 0} (f : X → X) where
-  pub length-changed : (xs : List X) (i : ℕ) → length (map f (take i xs) ++ drop i xs) ≡ length xs
-  length-changed xs i =
-      rw (
-        length-append (map f (take i xs)) (drop i xs),
-        length-map (take i xs) f,
-        length-take i xs,
-        length-drop i xs,
-      ) (omega arith)
+  -- the same are cleared
+  pub same-kept : (filters : List (Option Filter)) → All (FilterIsSeated rx now) filters
+      → map (expiry.kept_of heads counts) filters ≡ map (kept_of rx now) filters
+  same-kept [] seated = refl
+  same-kept (o ∷ filters) seated =
+      ap (λ b. cond b None o ∷ map (expiry.kept_of heads counts) filters)
+      (same-old o (All-head (FilterIsSeated rx now) o filters seated))
+      ∙ ap (λ (os : List (Option Filter)). kept_of rx now o ∷ os)
+      (same-kept filters (All-tail (FilterIsSeated rx now) o filters seated))
 
-  -- a list whose first items are changed has the others as they were
-  pub changed-at : (xs : List X) (i : ℕ) (d : X) → i < length xs → get_or (map f (take i xs)
-      ++ drop i xs) i d ≡ get_or xs i d
-  changed-at [] i d lt = absurd (omega (arith, lt))
-  changed-at (x ∷ xs) zero d lt = refl
-  changed-at (x ∷ xs) (suc i) d lt = changed-at xs i d (omega (arith, lt))
+  same-filtered : (filters : List (Option Filter)) → All (FilterIsSeated rx now) filters
+      → filter (expiry.is_old heads counts) filters ≡ filter (is_old rx now) filters
+  same-filtered [] seated = refl
+  same-filtered (o ∷ filters) seated =
+      let rest : List (Option Filter) = filter (expiry.is_old heads counts) filters in
+      ap (λ b. cond b (o ∷ rest) rest)
+      (same-old o (All-head (FilterIsSeated rx now) o filters seated))
+      ∙ ap (λ (os : List (Option Filter)). cond (is_old rx now o) (o ∷ os) os)
+      (same-filtered filters (All-tail (FilterIsSeated rx now) o filters seated))
 
-  next : (xs : List X) (i : ℕ) (d : X) → i < length xs
-      → slice_set (map f (take i xs) ++ drop i xs) i (f (get_or xs i d)) ≡ map f (take (suc i) xs)
-      ++ drop (suc i) xs
-  next [] i d lt = absurd (omega (arith, lt))
-  next (x ∷ xs) zero d lt = refl
-  next (x ∷ xs) (suc i) d lt = ap (λ ys. f x ∷ ys) (next xs i d (omega (arith, lt)))
+  -- and as many
+  pub same-count : (filters : List (Option Filter)) → All (FilterIsSeated rx now) filters
+      → length (filter (expiry.is_old heads counts) filters)
+      ≡ length (filter (is_old rx now) filters)
+  same-count filters seated =
+      ap (λ (os : List (Option Filter)). length os) (same-filtered filters seated)
 
-  -- and one more is changed
-  pub changed-next : (xs : List X) (i : ℕ) (d : X) → i < length xs
-      → slice_set (map f (take i xs) ++ drop i xs) i (f (get_or xs i d)) ≡ map f (take (i + 1) xs)
-      ++ drop (i + 1) xs
-  changed-next xs i d lt = rw add-one (next xs i d lt)
+-- and they name a head and a flow count that there is
+module _ (rx : HopState) (now : Settings) (heads counts : List ℕ)
+    (cpus : length rx.bare.accepted ≤ length heads) (queues : length now.counts ≤ length counts)
+  where
+    seated_one : (o : Option Filter) → FilterIsSeated rx now o → expiry.IsSeated heads counts o
+    seated_one None seated = tt
+    seated_one (Some filter) seated = (
+      (let lt = seated.0 in omega (arith, lt, cpus)),
+      (let lt = seated.1 in omega (arith, lt, queues)),
+    )
 
-length-kept : (b : Bool) (x : Option Filter) → length (cond b (x ∷ []) []) ≡ cond b 1 0
-length-kept true x = refl
-length-kept false x = refl
+    pub seated_all : (filters : List (Option Filter)) → All (FilterIsSeated rx now) filters
+        → All (expiry.IsSeated heads counts) filters
+    seated_all filters all k d lt = seated_one (slice_index_or filters k d) (all k d lt)
 
--- numbers without a filter are passed over: a count that leaves out what is not set stays the same
-module _ (p : Option Filter → Bool) (none : p None ≡ false) where
-  pub counted-past : (xs : List (Option Filter)) (from to : ℕ) → from ≤ to
-      → HoldsNowhere (has_filter xs) from to
-      → filter p (take to xs) ≡ filter p (take from xs)
-  counted-past [] zero zero upto free = refl
-  counted-past [] zero (suc to) upto free = refl
-  counted-past [] (suc from) zero upto free = refl
-  counted-past [] (suc from) (suc to) upto free = refl
-  counted-past (x ∷ xs) zero zero upto free = refl
-  counted-past (None ∷ xs) zero (suc to) upto free =
-      rw none (counted-past xs zero to (omega arith)
-      (λ k above below. free (suc k) (omega arith) (omega (arith, below))))
-  counted-past (Some x ∷ xs) zero (suc to) upto free =
-      absurd (let e : true ≡ false = free zero (omega arith) (omega arith) in cc)
-  counted-past (x ∷ xs) (suc from) zero upto free = absurd (omega (arith, upto))
-  counted-past (x ∷ xs) (suc from) (suc to) upto free =
-      ap (λ ys. cond (p x) (x ∷ ys) ys) (counted-past xs from to (omega (arith, upto))
-      (λ k above below. free (suc k) (omega (arith, above)) (omega (arith, below))))
+-- a list that has the numbers of f below a place has one more of them
+pub one_more : (f : ℕ → ℕ) (xs : List ℕ) (i x : ℕ) → i < length xs → x ≡ f i
+    → ((k : ℕ) → k < i → slice_index xs k ≡ f k)
+    → (k : ℕ) → k < i + 1 → slice_index (slice_set xs i x) k ≡ f k
+one_more f xs i x within is below k lt = elim (cases_eq k i) [
+  | inl here ↦
+      ap (slice_index (slice_set xs i x)) here ∙ get_or-set_same xs i x 0 within ∙ is
+      ∙ ap f (sym here)
+  | inr other ↦ get_or-set_other xs i k x 0 other ∙ below k (omega (arith, lt, other))
+]
 
-  -- and one more is counted where it passes
-  pub counted-next : (xs : List (Option Filter)) (from i : ℕ) → from ≤ i → i < length xs
-      → HoldsNowhere (has_filter xs) from i
-      → length (filter p (take (i + 1) xs))
-      ≡ length (filter p (take from xs)) + cond (p (slice_index_or xs i None)) 1 0
-  counted-next xs from i upto lt free =
-      let x : Option Filter = slice_index_or xs i None in
-      ap (λ ys. length (filter p ys)) (take_more xs i None lt)
-      ∙ ap length (filter-append p (take i xs) (x ∷ []))
-      ∙ length-append (filter p (take i xs)) (filter p (x ∷ []))
-      ∙ ap (λ n. length (filter p (take i xs)) + n) (length-kept (p x) x)
-      ∙ ap (λ ys. length ys + cond (p x) 1 0) (counted-past xs from i upto free)
-
--- and a change that leaves them unset changes none of them
-module _ (f : Option Filter → Option Filter) (none : f None ≡ None) where
-  pub changed-past : (xs : List (Option Filter)) (from to : ℕ) → from ≤ to
-      → HoldsNowhere (has_filter (map f (take from xs) ++ drop from xs)) from to
-      → map f (take from xs) ++ drop from xs ≡ map f (take to xs) ++ drop to xs
-  changed-past [] zero zero upto free = refl
-  changed-past [] zero (suc to) upto free = refl
-  changed-past [] (suc from) zero upto free = refl
-  changed-past [] (suc from) (suc to) upto free = refl
-  changed-past (x ∷ xs) zero zero upto free = refl
-  changed-past (None ∷ xs) zero (suc to) upto free =
-      rw none (ap (λ ys. None ∷ ys) (changed-past xs zero to (omega arith)
-      (λ k above below. free (suc k) (omega arith) (omega (arith, below)))))
-  changed-past (Some x ∷ xs) zero (suc to) upto free =
-      absurd (let e : true ≡ false = free zero (omega arith) (omega arith) in cc)
-  changed-past (x ∷ xs) (suc from) zero upto free = absurd (omega (arith, upto))
-  changed-past (x ∷ xs) (suc from) (suc to) upto free =
-      ap (λ ys. f x ∷ ys) (changed-past xs from to (omega (arith, upto))
-      (λ k above below. free (suc k) (omega (arith, above)) (omega (arith, below))))
-
-  pub cleared-past : (filters xs : List (Option Filter)) (from to : ℕ) → from ≤ to
-      → filters ≡ map f (take from xs) ++ drop from xs
-      → HoldsNowhere (has_filter filters) from to
-      → filters ≡ map f (take to xs) ++ drop to xs
-  cleared-past filters xs from to upto is free =
-      is ∙ changed-past xs from to upto
-      (subst (λ (fs : List (Option Filter)). HoldsNowhere (has_filter fs) from to) is free)
+-- a number within a limit is put into a list of such numbers
+pub all_set : (limit : ℕ) (xs : List ℕ) (i x : ℕ) → x ≤ limit → All (λ n. n ≤ limit) xs
+    → All (λ n. n ≤ limit) (slice_set xs i x)
+all_set limit xs i x few all k d lt =
+    let within : k < length xs = (let same = length-set xs i x in omega (arith, same, lt)) in
+    elim (cases_eq k i) [
+      | inl here ↦
+          let is : slice_index_or (slice_set xs i x) k d ≡ x =
+          ap (λ j. slice_index_or (slice_set xs i x) j d) here
+          ∙ get_or-set_same xs i x d (omega (arith, here, within)) in
+          omega (arith, is, few)
+      | inr other ↦
+          let is : slice_index_or (slice_set xs i x) k d ≡ slice_index_or xs k d =
+          get_or-set_other xs i k x d other in
+          let old = all k d within in omega (arith, is, old)
+    ]

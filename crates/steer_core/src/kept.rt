@@ -50,15 +50,15 @@ pub fn history_from(alloc: Global, kept: Kept) -> Result<History, OutOfMemory>
         tx,
         beside,
     } = kept;
-    let rx = moved_hop(alloc, rx);
-    let tx = moved_hop(alloc, tx);
-    let beside = moved_beside(alloc, beside);
+    let rx = moved_hop(alloc, rx)?;
+    let tx = moved_hop(alloc, tx)?;
+    let beside = moved_beside(alloc, beside)?;
     let parts = HistoryParts {
         total,
         cut,
-        rx: rx?,
-        tx: tx?,
-        beside: beside?,
+        rx,
+        tx,
+        beside,
     };
     Ok(parts.joined())
 }

@@ -2,7 +2,8 @@
 ghost use Rattle.std.specs.Prelude.{◌≡◌, true};
 ghost use Rattle.steer_core.specs.Changes.{stands_alone};
 ghost use Rattle.steer_invariant.specs.StepInvariant.{IsCommandNamed};
-ghost use Rattle.steer_model.specs.Steps.Commands.{answer_to, is_done, set_by, with_settings};
+ghost use Rattle.steer_model.specs.Steps.Commands.{answer_to, gone, is_done, set_by};
+ghost use Rattle.steer_model.specs.Steps.Commands.{with_settings};
 
 use crate::actors::Actors;
 use crate::actors::old_filters::clear_old;
@@ -19,7 +20,9 @@ impl Actors {
         match command {
             Command::Flows(q, count) => self.set_flows(q.0, *count),
             Command::Sock(size) => self.set_sock(*size),
-            Command::Expire => self.expire(),
+            Command::Expire => {
+                self.expire();
+            }
             Command::Mask(..)
             | Command::Offline(_)
             | Command::Online(_)
@@ -65,11 +68,12 @@ impl Actors {
         self.socket.resize(size);
     }
 
-    // Clears the filters that may go.
-    fn expire(&mut self)
+    /// Clears the filters that may go, and returns their number.
+    pub(super) fn expire(&mut self) -> u32
         ensures state { self.new.machine ≡ set_by self.old.machine Command.Expire }
+        ensures count { result ≡ gone self.old.machine }
         ensures rooms { self.new.rooms ≡ self.old.rooms }
     {
-        clear_old(&mut self.filters, &self.rx, &self.settings);
+        clear_old(&mut self.filters, &self.given, &self.rx, &self.settings)
     }
 }

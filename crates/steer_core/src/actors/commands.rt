@@ -2,13 +2,13 @@
 ghost use Rattle.std.specs.Prelude.{◌≡◌, ◌<◌, length, true};
 ghost use Rattle.history.specs.Regular.{has_text};
 ghost use Rattle.steer_base.specs.Commands.{refusal};
+ghost use Rattle.steer_core.specs.Changes.{done_by};
 ghost use Rattle.steer_invariant.specs.StepInvariant.{IsCommandNamed};
 ghost use Rattle.steer_model.specs.Steps.Commands.{affects, answer_to, by_gate, gated, given};
 ghost use Rattle.steer_model.specs.Steps.Commands.{listed};
 
 use crate::actors::Actors;
 use crate::actors::hops::gate_answer;
-use crate::actors::old_filters::count_old;
 use history::Commanded;
 use hotplug::{Online, affected};
 use steer_base::{Answer, Command, Refused};
@@ -24,26 +24,30 @@ impl Actors {
         ensures rooms { self.new.rooms ≡ self.old.rooms }
     {
         let answer = self.answer_to(&command);
-        if is_done(&answer) {
-            self.change(&command);
-        }
-        self.list(command, answer);
+        self.list(&command, &answer);
         answer
     }
 
     // Lists a command with its answer.
-    fn list(&mut self, command: Command, answer: Answer)
-        requires text { has_text answer ≡ true }
+    fn list(&mut self, command: &Command, answer: &Answer)
+        requires text { has_text answer.now ≡ true }
         requires room { length self.old.machine.commands < self.old.rooms.commands }
-        ensures state { self.new.machine ≡ listed self.old.machine command answer }
+        ensures state { self.new.machine ≡ listed self.old.machine command.now answer.now }
         ensures rooms { self.new.rooms ≡ self.old.rooms }
     {
-        self.commands.push(Commanded { command, answer });
+        self.commands.push(Commanded {
+            command: *command,
+            answer: *answer,
+        });
     }
 
-    // The answer to a command: why it may not be given, else what its gate says.
-    fn answer_to(&self, command: &Command) -> Answer
-        ensures { result ≡ answer_to self.now.machine command.now }
+    // The answer to a command: why it may not be given, else what its gate says. If it is done, its
+    // change is made.
+    fn answer_to(&mut self, command: &Command) -> Answer
+        requires named { IsCommandNamed self.old.machine.setup command.now }
+        ensures state { self.new.machine ≡ done_by self.old.machine command.now }
+        ensures answer { result ≡ answer_to self.old.machine command.now }
+        ensures rooms { self.new.rooms ≡ self.old.rooms }
     {
         match self.refusal(command) {
             Some(why) => refused_answer(&why),
@@ -65,20 +69,46 @@ impl Actors {
         }
     }
 
-    // The answer to a command that may be given.
-    fn by_gate(&self, command: &Command) -> Answer
-        ensures { result ≡ by_gate self.now.machine command.now }
+    // The answer to a command that may be given, whose change is made if it is done. The answer to
+    // `expire` is the number of filters that it clears.
+    fn by_gate(&mut self, command: &Command) -> Answer
+        requires named { IsCommandNamed self.old.machine.setup command.now }
+        requires allowed { answer_to self.old.machine command.now
+            ≡ by_gate self.old.machine command.now }
+        ensures state { self.new.machine ≡ done_by self.old.machine command.now }
+        ensures answer { result ≡ by_gate self.old.machine command.now }
+        ensures rooms { self.new.rooms ≡ self.old.rooms }
     {
         match command {
             Command::Mask(..)
             | Command::Flows(..)
             | Command::Sock(_)
             | Command::Offline(_)
-            | Command::Online(_) => self.rx_gate(command),
-            Command::XCpus(..) | Command::XQueues(..) => self.tx_gate(command),
-            Command::Reta(..) | Command::Stand(..) => Answer::Done,
-            Command::Expire => Answer::Expired(count_old(&self.filters, &self.rx, &self.settings)),
+            | Command::Online(_) => {
+                let answer = self.rx_gate(command);
+                self.change_if(command, answer)
+            }
+            Command::XCpus(..) | Command::XQueues(..) => {
+                let answer = self.tx_gate(command);
+                self.change_if(command, answer)
+            }
+            Command::Reta(..) | Command::Stand(..) => self.change_if(command, Answer::Done),
+            Command::Expire => Answer::Expired(self.expire()),
         }
+    }
+
+    // Makes the change of a command if its answer is that it is done.
+    fn change_if(&mut self, command: &Command, answer: Answer) -> Answer
+        requires named { IsCommandNamed self.old.machine.setup command.now }
+        requires answer { answer ≡ answer_to self.old.machine command.now }
+        ensures state { self.new.machine ≡ done_by self.old.machine command.now }
+        ensures answer { result ≡ answer }
+        ensures rooms { self.new.rooms ≡ self.old.rooms }
+    {
+        if is_done(&answer) {
+            self.change(command);
+        }
+        answer
     }
 
     // The answer to a command at the receive gate.

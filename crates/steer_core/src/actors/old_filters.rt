@@ -1,73 +1,52 @@
-//! Filters that may be cleared: their number, and clearing them.
-ghost use Rattle.std.specs.Prelude.{◌≡◌, ◌<◌, None, length, map, slice_index_or, slice_set};
+//! Filters that may be cleared: clearing them, by the heads and flow counts of the moment.
+ghost use Rattle.std.specs.Prelude.{◌≡◌, ◌≤◌, length, map};
 ghost use Rattle.std.specs.List.{All, filter};
-ghost use Rattle.steer_core.specs.OldFilters.{FilterIsSeated, is_old as may_go, kept_of};
+ghost use Rattle.steer_base.specs.declared.limits.TheConstants.{MAX_FLOW_COUNT};
+ghost use Rattle.steer_core.specs.OldFilters.{AreCountsBelow, AreHeadsBelow, FilterIsSeated};
+ghost use Rattle.steer_core.specs.OldFilters.{is_old, kept_of};
 
-use accel_filter::{FilterTable, may_expire};
+use accel_filter::FilterTable;
 use hop_core::Hop;
-use steer_base::Filter;
-use steer_model::InForce;
+use steer_model::{Given, InForce};
 
-/// The number of filters that may be cleared.
-pub fn count_old(filters: &FilterTable, rx: &Hop, settings: &InForce) -> u32
-    requires { All (FilterIsSeated rx.now settings.now) filters.now }
-    ensures { result ≡ length (filter (may_go rx.now settings.now) filters.now) }
+/// Clears the filters that may be cleared, and returns their number.
+pub fn clear_old(filters: &mut FilterTable, given: &Given, rx: &Hop, settings: &InForce) -> u32
+    requires cpus { length rx.now.bare.accepted ≡ given.now.cpus }
+    requires queues { length settings.now.counts ≡ length given.now.homes }
+    requires few { All (λ count. count ≤ MAX_FLOW_COUNT) settings.now.counts }
+    requires seated { All (FilterIsSeated rx.now settings.now) filters.old }
+    ensures cleared { filters.new ≡ map (kept_of rx.now settings.now) filters.old }
+    ensures count { result ≡ length (filter (is_old rx.now settings.now) filters.old) }
 {
-    let mut count = 0;
-    let mut from = 0;
-    while let Some(i) = filters.next_set(from) {
-        if is_old(filter_at(filters, i), rx, settings) {
-            count += 1;
-        }
-        from = i + 1;
-    }
-    count
+    let heads = heads_of(rx, given.cpus());
+    let flows = counts_of(settings, given.queues());
+    filters.expire_all(&heads, &flows)
 }
 
-/// Clears the filters that may be cleared.
-pub fn clear_old(filters: &mut FilterTable, rx: &Hop, settings: &InForce)
-    requires { All (FilterIsSeated rx.now settings.now) filters.old }
-    ensures { filters.new ≡ map (kept_of rx.now settings.now) filters.old }
+// The head of each processor.
+fn heads_of(rx: &Hop, cpus: u8) -> [u32; 32]
+    requires few { cpus ≤ 32 }
+    requires all { length rx.now.bare.accepted ≡ cpus }
+    ensures { AreHeadsBelow rx.now cpus result }
 {
-    let mut from = 0;
-    while let Some(i) = filters.next_set(from) {
-        clear_if_old(filters, i, rx, settings);
-        from = i + 1;
+    let mut heads = [0; 32];
+    for cpu in 0..cpus {
+        heads[cpu as usize] = rx.head(cpu);
     }
+    heads
 }
 
-// Clears a filter if it may go.
-fn clear_if_old(filters: &mut FilterTable, i: u32, rx: &Hop, settings: &InForce)
-    requires place { i < length filters.old }
-    requires seated { FilterIsSeated rx.now settings.now (slice_index_or filters.old i None) }
-    ensures { filters.new ≡ slice_set filters.old i
-        (kept_of rx.now settings.now (slice_index_or filters.old i None)) }
+// The flow count of each receive queue.
+fn counts_of(settings: &InForce, queues: u8) -> [u32; 16]
+    requires few { queues ≤ 16 }
+    requires all { length settings.now.counts ≡ queues }
+    requires within { All (λ count. count ≤ MAX_FLOW_COUNT) settings.now.counts }
+    ensures same { AreCountsBelow settings.now queues result }
+    ensures within { All (λ count. count ≤ MAX_FLOW_COUNT) result }
 {
-    if let Some(filter) = filter_at(filters, i) {
-        let head = rx.head(filter.cpu.0);
-        filters.expire(i, head, settings.flow_count(filter.queue.0));
+    let mut counts = [0; 16];
+    for queue in 0..queues {
+        counts[queue as usize] = settings.flow_count(queue);
     }
-}
-
-// Whether a filter is set and may go, by the head of its processor and the flow count of its queue.
-fn is_old(filter: Option<Filter>, rx: &Hop, settings: &InForce) -> bool
-    requires { FilterIsSeated rx.now settings.now filter }
-    ensures { result ≡ may_go rx.now settings.now filter }
-{
-    match filter {
-        Some(filter) => may_expire(
-            filter,
-            rx.head(filter.cpu.0),
-            settings.flow_count(filter.queue.0),
-        ),
-        None => false,
-    }
-}
-
-// The filter of a number.
-fn filter_at(filters: &FilterTable, i: u32) -> Option<Filter>
-    requires { i < length filters.now }
-    ensures { result ≡ slice_index_or filters.now i None }
-{
-    filters.look(i)
+    counts
 }
