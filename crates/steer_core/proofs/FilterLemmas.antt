@@ -1,5 +1,5 @@
 -- The filters that may be cleared, by copies of the heads and of the flow counts.
-use Rattle.std.proofs.Common.{ℕ, ◌+◌, ◌<◌, ◌≤◌, ◌≡◌, Bool, List, [], ◌∷◌, Option, Some, None}
+use Rattle.std.proofs.Common.{ℕ, ◌+◌, ◌<◌, ◌≤◌, ◌≡◌, List, [], ◌∷◌, Option, Some, None}
 use Rattle.std.proofs.Common.{length, map, cond, refl, ap, sym, ◌∙◌, arith, inl, inr}
 use Rattle.std.specs.Prelude.{slice_index, slice_index_or, slice_set}
 use Rattle.std.specs.List.{All, filter}
@@ -51,21 +51,6 @@ module _ (rx : HopState) (now : Settings) (heads counts : List ℕ)
       ≡ length (filter (is_old rx now) filters)
   same-count filters seated =
       ap (λ (os : List (Option Filter)). length os) (same-filtered filters seated)
-
--- and they name a head and a flow count that there is
-module _ (rx : HopState) (now : Settings) (heads counts : List ℕ)
-    (cpus : length rx.bare.accepted ≤ length heads) (queues : length now.counts ≤ length counts)
-  where
-    seated_one : (o : Option Filter) → FilterIsSeated rx now o → expiry.IsSeated heads counts o
-    seated_one None seated = tt
-    seated_one (Some filter) seated = (
-      (let lt = seated.0 in omega (arith, lt, cpus)),
-      (let lt = seated.1 in omega (arith, lt, queues)),
-    )
-
-    pub seated_all : (filters : List (Option Filter)) → All (FilterIsSeated rx now) filters
-        → All (expiry.IsSeated heads counts) filters
-    seated_all filters all k d lt = seated_one (slice_index_or filters k d) (all k d lt)
 
 -- a list that has the numbers of f below a place has one more of them
 pub one_more : (f : ℕ → ℕ) (xs : List ℕ) (i x : ℕ) → i < length xs → x ≡ f i

@@ -19,8 +19,7 @@ use Rattle.steer_model.specs.Steps.Applications.{next_in, sent_of}
 use Rattle.steer_model.specs.Steps.CompoundSteps.{Progress, poll, reply, replying, serve, tried}
 use Rattle.steer_model.specs.Steps.CompoundSteps.{tries, with_record}
 use Rattle.step_laws.specs.IdleReasons.{Need, Stage, answer_by_needs, is_at, needs}
-use Rattle.step_laws.specs.IdleReasons.{poller_hand, poller_stage, puts_next, sender_hand}
-use Rattle.step_laws.specs.IdleReasons.{sender_stage, weighs_next}
+use Rattle.step_laws.specs.IdleReasons.{poller_hand, sender_hand}
 use Rattle.step_laws.specs.IdleReasons as stage
 use Rattle.steer_model.specs.Steps.SingleSteps.{is_command, is_idle, is_work, simple}
 use Rattle.steer_model.specs.declared.note.Note.TheVariants as note

@@ -1,4 +1,4 @@
-use Rattle.std.proofs.Common.{refl, ap, ◌∙◌}
+use Rattle.std.proofs.Common.{refl}
 use Rattle.steer_invariant.proofs.Invariant.CommandLemmas.{held_expire}
 use Rattle.steer_core.proofs.SeatedLemmas.{counted, seated}
 use Rattle.steer_core.proofs.actors.Actors.expire.Goals as goal

@@ -1,5 +1,4 @@
-use Rattle.std.proofs.Common.{ℕ, ◌<◌, ◌∙◌, arith, length}
-use Rattle.steer_core.specs.OldFilters.{AreCountsBelow, AreHeadsBelow}
+use Rattle.std.proofs.Common.{◌∙◌, arith}
 use Rattle.steer_core.proofs.FilterLemmas.{same-count, same-kept}
 use Rattle.steer_core.proofs.actors.old_filters.clear_old.Goals as goal
 
