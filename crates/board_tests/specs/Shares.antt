@@ -1,9 +1,10 @@
 -- The threads of a test board, and how they begin.
 use Rattle.std.specs.Prelude.{◌≡◌, ℕ, ◌+◌, ◌<◌, ◌≤◌, length}
 use Rattle.hop_rule.specs.declared.sizes.BoardSizes.{BoardSizes}
+use Rattle.board_api.specs.Calls.Rights.{IsCloser}
 use Rattle.board_api.specs.Seats.{BoardSeatView}
 use Rattle.board_api.specs.Views.{BoardView}
-use Rattle.board_tests.specs.Stands.{SeatIsOutside}
+use Rattle.board_tests.specs.Stands.{SeatIsOutside, opened_by}
 
 -- A board of four lanes and two out lanes, with one seat for each worker and one for the closer,
 -- and at least one setting.
@@ -27,3 +28,10 @@ pub record MayWork (board : BoardView) (number workers : ℕ) (seat : BoardSeatV
     : Type 0 where
   pub wide : IsWide board.sizes workers
   pub ready : IsReady board number workers seat
+
+-- The closer's seat, outside, which has not opened the gate, at a board with a setting.
+pub record MayKeep (board : BoardView) (seat : BoardSeatView) : Type 0 where
+  pub closer : IsCloser board.sizes seat.number
+  pub setting : 0 < length board.sizes.settings
+  pub opened : opened_by seat ≡ 0
+  pub stands : SeatIsOutside board seat.number seat

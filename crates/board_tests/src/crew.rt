@@ -79,6 +79,28 @@ pub fn last_worker(
     })
 }
 
+/// Two workers that take the last two seats, the first of them with this number.
+pub fn two_workers(
+    alloc: Global,
+    board: &Board,
+    seats: &mut Vec<BoardSeat>,
+    first: u8,
+    workers: u8,
+) -> Result<(Worker, Worker), Stuck>
+    requires within { first + 1 < workers }
+    requires seats { seats.old.items ≡ new_board_seats board.now.table (first + 1 + 1) }
+    requires all { vec_len seats.old ≡ first + 1 + 1 }
+    ensures zero { IfOk result (λ r. IsReady board.now r.0.number r.0.workers r.0.seat) }
+    ensures one { IfOk result (λ r. IsReady board.now r.1.number r.1.workers r.1.seat) }
+    ensures crew { IfOk result (λ r. (r.0.workers ≡ workers) × (r.1.workers ≡ workers)) }
+    ensures seats { OnOk result (seats.new.items ≡ new_board_seats board.now.table first) }
+    ensures all { OnOk result (vec_len seats.new ≡ first) }
+{
+    let one = last_worker(alloc, board, seats, first + 1, workers)?;
+    let zero = last_worker(alloc, board, seats, first, workers)?;
+    Ok((zero, one))
+}
+
 /// One seat more, which is done.
 pub fn add_seat(board: &Board, seats: &mut Vec<BoardSeat>, seat: BoardSeat) -> Result<(), Stuck>
     requires seats { All (IsDone board.now) seats.old.items }

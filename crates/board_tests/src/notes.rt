@@ -3,7 +3,7 @@ use std::alloc::Global;
 use steer_base::{OutOfMemory, PacketId, Put};
 
 /// A packet that was offered to a lane.
-#[derive(Clone, Copy, Debug, Drop)]
+#[derive(Drop)]
 pub struct Offer {
     pub lane: u8,
     pub id: PacketId,
@@ -11,7 +11,7 @@ pub struct Offer {
 }
 
 /// A packet of a lane that was delivered to an out lane, and then retired.
-#[derive(Clone, Copy, Debug, Drop)]
+#[derive(Drop)]
 pub struct Gift {
     pub lane: u8,
     pub out: u8,
@@ -20,7 +20,7 @@ pub struct Gift {
 }
 
 /// What a visit read: the setting, and the head of its packet's lane.
-#[derive(Clone, Copy, Debug, Drop)]
+#[derive(Drop)]
 pub struct Reading {
     pub lane: u8,
     pub setting: u64,
@@ -28,7 +28,7 @@ pub struct Reading {
 }
 
 /// All notes of one thread, in the order in which it made them.
-#[derive(Debug, Drop)]
+#[derive(Drop)]
 pub struct Notes {
     pub offers: Vec<Offer>,
     pub gifts: Vec<Gift>,

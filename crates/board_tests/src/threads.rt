@@ -1,14 +1,13 @@
 //! Threads that put, pull, deliver and retire beside each other, while one more closes and opens
 //! the gate.
-ghost use Rattle.std.specs.Prelude.{◌≡◌, ◌+◌, ◌<◌, All, IfOk, OnOk, length};
+ghost use Rattle.std.specs.Prelude.{◌≡◌, ◌+◌, All, IfOk, OnOk};
 ghost use Rattle.std.specs.Thread.{IsSync};
 ghost use Rattle.std.specs.Vec.{vec_len};
-ghost use Rattle.board_api.specs.Calls.Rights.{IsCloser};
-ghost use Rattle.board_tests.specs.Shares.{MayWork};
-ghost use Rattle.board_tests.specs.Stands.{IsDone, SeatIsOutside, opened_by};
+ghost use Rattle.board_tests.specs.Shares.{MayKeep, MayWork};
+ghost use Rattle.board_tests.specs.Stands.{IsDone};
 
 use crate::closer::change_often;
-use crate::crew::{add_seat, last_seat, last_worker, lists_of, wide_shape};
+use crate::crew::{add_seat, last_seat, lists_of, two_workers, wide_shape};
 use crate::equal::same;
 use crate::notes::Notes;
 use crate::rounds::Stuck;
@@ -23,12 +22,12 @@ use std::test::Fail;
 use std::thread::{Threads, join};
 use steer_base::OutOfMemory;
 
+/// The seat of the gate's thread when it has ended, and the last setting that it made.
+type Kept = (BoardSeat, u64);
+
 // The thread of the gate.
-fn keep_gate(board: &Board, mut seat: BoardSeat) -> (BoardSeat, u64)
-    requires closer { IsCloser board.now.sizes seat.number }
-    requires setting { 0 < length board.now.sizes.settings }
-    requires opened { opened_by seat ≡ 0 }
-    requires stands { SeatIsOutside board.now seat.number seat }
+fn keep_gate(board: &Board, mut seat: BoardSeat) -> Kept
+    requires { MayKeep board.now seat }
     ensures { IsDone board.now result.0 }
 {
     let last = change_often(board, &mut seat);
@@ -93,6 +92,76 @@ fn run_four<R: Threads + Sync>(
     )
 }
 
+// Two workers beside the thread of the gate.
+fn gate_and_two<R: Threads + Sync>(
+    rt: &R,
+    board: &Board,
+    gate: BoardSeat,
+    zero: Worker,
+    one: Worker,
+) -> (Kept, Pair)
+    requires gate { MayKeep board.now gate }
+    requires zero { MayWork board.now zero.number zero.workers zero.seat }
+    requires one { MayWork board.now one.number one.workers one.seat }
+    ensures gate { IsDone board.now result.0.0 }
+    ensures zero { IfOk result.1.0 (λ w. IsDone board.now w.seat) }
+    ensures one { IfOk result.1.1 (λ w. IsDone board.now w.seat) }
+{
+    join(
+        rt,
+        || -> Kept
+            requires { MayKeep board.now gate }
+            ensures { IsDone board.entry.now result.0 }
+        { keep_gate(board, gate) },
+        || -> Pair
+            requires { IsSync R.row × MayWork board.now zero.number zero.workers zero.seat
+                × MayWork board.now one.number one.workers one.seat }
+            ensures { IfOk result.0 (λ w. IsDone board.entry.now w.seat)
+                × IfOk result.1 (λ w. IsDone board.entry.now w.seat) }
+        { run_two(rt, board, zero, one) },
+    )
+}
+
+// Four workers beside it.
+fn gate_and_four<R: Threads + Sync>(
+    rt: &R,
+    board: &Board,
+    gate: BoardSeat,
+    zero: Worker,
+    one: Worker,
+    two: Worker,
+    three: Worker,
+) -> (Kept, (Pair, Pair))
+    requires gate { MayKeep board.now gate }
+    requires zero { MayWork board.now zero.number zero.workers zero.seat }
+    requires one { MayWork board.now one.number one.workers one.seat }
+    requires two { MayWork board.now two.number two.workers two.seat }
+    requires three { MayWork board.now three.number three.workers three.seat }
+    ensures gate { IsDone board.now result.0.0 }
+    ensures zero { IfOk result.1.0.0 (λ w. IsDone board.now w.seat) }
+    ensures one { IfOk result.1.0.1 (λ w. IsDone board.now w.seat) }
+    ensures two { IfOk result.1.1.0 (λ w. IsDone board.now w.seat) }
+    ensures three { IfOk result.1.1.1 (λ w. IsDone board.now w.seat) }
+{
+    join(
+        rt,
+        || -> Kept
+            requires { MayKeep board.now gate }
+            ensures { IsDone board.entry.now result.0 }
+        { keep_gate(board, gate) },
+        || -> (Pair, Pair)
+            requires { IsSync R.row × MayWork board.now zero.number zero.workers zero.seat
+                × MayWork board.now one.number one.workers one.seat
+                × MayWork board.now two.number two.workers two.seat
+                × MayWork board.now three.number three.workers three.seat }
+            ensures { IfOk result.0.0 (λ w. IsDone board.entry.now w.seat)
+                × IfOk result.0.1 (λ w. IsDone board.entry.now w.seat)
+                × IfOk result.1.0 (λ w. IsDone board.entry.now w.seat)
+                × IfOk result.1.1 (λ w. IsDone board.entry.now w.seat) }
+        { run_four(rt, board, zero, one, two, three) },
+    )
+}
+
 // The seat and the notes of a worker that is done.
 fn collect(
     board: &Board,
@@ -113,6 +182,24 @@ fn collect(
     } = worker?;
     add_notes(notes, own)?;
     add_seat(board, seats, seat)
+}
+
+// Those of two workers.
+fn collect_two(
+    board: &Board,
+    seats: &mut Vec<BoardSeat>,
+    notes: &mut Vec<Notes>,
+    pair: Pair,
+) -> Result<(), Stuck>
+    requires seats { All (IsDone board.now) seats.old.items }
+    requires zero { IfOk pair.0 (λ w. IsDone board.now w.seat) }
+    requires one { IfOk pair.1 (λ w. IsDone board.now w.seat) }
+    ensures seats { OnOk result (All (IsDone board.now) seats.new.items) }
+    ensures two_more { OnOk result (vec_len seats.new ≡ vec_len seats.old + 2) }
+{
+    let (zero, one) = pair;
+    collect(board, seats, notes, zero)?;
+    collect(board, seats, notes, one)
 }
 
 fn add_notes(notes: &mut Vec<Notes>, own: Notes) -> Result<(), OutOfMemory> {
@@ -161,16 +248,10 @@ fn two_threads_and_a_gate(rt: HostRuntime) -> Result<(), Fail> {
     let Some(gate) = last_seat(&board, &mut seats, 3) else {
         panic!(rt; "no seat")
     };
-    let one = last_worker(rt.alloc(), &board, &mut seats, 1, 2)?;
-    let zero = last_worker(rt.alloc(), &board, &mut seats, 0, 2)?;
-    let ((gate, last), (zero, one)) = join(
-        &rt,
-        || keep_gate(&board, gate),
-        || run_two(&rt, &board, zero, one),
-    );
+    let (zero, one) = two_workers(rt.alloc(), &board, &mut seats, 0, 2)?;
+    let ((gate, last), pair) = gate_and_two(&rt, &board, gate, zero, one);
     let mut notes = Vec::new(rt.alloc());
-    collect(&board, &mut seats, &mut notes, zero)?;
-    collect(&board, &mut seats, &mut notes, one)?;
+    collect_two(&board, &mut seats, &mut notes, pair)?;
     add_seat(&board, &mut seats, gate)?;
     agree(&rt, &lists_of(board, seats), &notes, last);
     Ok(())
@@ -183,20 +264,12 @@ fn four_threads_and_a_gate(rt: HostRuntime) -> Result<(), Fail> {
     let Some(gate) = last_seat(&board, &mut seats, 5) else {
         panic!(rt; "no seat")
     };
-    let three = last_worker(rt.alloc(), &board, &mut seats, 3, 4)?;
-    let two = last_worker(rt.alloc(), &board, &mut seats, 2, 4)?;
-    let one = last_worker(rt.alloc(), &board, &mut seats, 1, 4)?;
-    let zero = last_worker(rt.alloc(), &board, &mut seats, 0, 4)?;
-    let ((gate, last), ((zero, one), (two, three))) = join(
-        &rt,
-        || keep_gate(&board, gate),
-        || run_four(&rt, &board, zero, one, two, three),
-    );
+    let (two, three) = two_workers(rt.alloc(), &board, &mut seats, 2, 4)?;
+    let (zero, one) = two_workers(rt.alloc(), &board, &mut seats, 0, 4)?;
+    let ((gate, last), (first, second)) = gate_and_four(&rt, &board, gate, zero, one, two, three);
     let mut notes = Vec::new(rt.alloc());
-    collect(&board, &mut seats, &mut notes, zero)?;
-    collect(&board, &mut seats, &mut notes, one)?;
-    collect(&board, &mut seats, &mut notes, two)?;
-    collect(&board, &mut seats, &mut notes, three)?;
+    collect_two(&board, &mut seats, &mut notes, first)?;
+    collect_two(&board, &mut seats, &mut notes, second)?;
     add_seat(&board, &mut seats, gate)?;
     agree(&rt, &lists_of(board, seats), &notes, last);
     Ok(())

@@ -115,8 +115,12 @@ pub fn lane_was_served(notes: &Notes, number: u8, lane: &LaneList) -> bool {
             served = served.wrapping_add(1);
         }
     }
-    let counts = [lane.pulled, lane.delivered, lane.retired];
-    counts.iter().all(|count| *count as usize == served)
+    let counts = (
+        lane.pulled as usize,
+        lane.delivered as usize,
+        lane.retired as usize,
+    );
+    counts == (served, served, served)
 }
 
 /// The settings that a thread read never fall, and none is above the last that was made.
