@@ -81,7 +81,10 @@ impl Lane {
 
     /// Offers a packet with this hash to the lane. It is dropped if as many packets wait as the
     /// limit allows, or if the flow limit applies and says so; otherwise it is accepted. Returns
-    /// its position, or the drop with its number, counts and cause.
+    /// its position, or the drop with its number, counts and cause. It is inlined, so that its
+    /// result stays in registers: written to memory in parts and read as a whole, it would hold the
+    /// processor up.
+    #[inline(always)]
     pub fn put(&mut self, id: PacketId, hash: Option<u32>) -> Put
         requires { put_count self.old < self.old.room }
         ensures lists { self.new ≡ after_put self.old id hash }

@@ -4,7 +4,7 @@ ghost use Rattle.steer_base.specs.Choices.{rps_choice_of};
 ghost use Rattle.steer_base.specs.Sets.{members};
 
 use std::marker::Model;
-use steer_base::{Cpu, CpuMask};
+use steer_base::{Cpu, CpuMask, remainder};
 
 /// The most processors.
 const MAX_CPUS: usize = 32;
@@ -51,7 +51,7 @@ impl RpsMap {
         if self.len == 0 {
             return home;
         }
-        let chosen = self.cpus[(hash % self.len) as usize];
+        let chosen = self.cpus[remainder(hash, self.len) as usize];
         if online.has(chosen.0) { chosen } else { home }
     }
 }

@@ -2,6 +2,7 @@
 ghost use Rattle.std.specs.Prelude.{◌<◌, ◌≡◌, ◌≤◌};
 ghost use Rattle.steer_base.specs.Apps.{app_of as app_of_hash};
 
+use crate::division::remainder;
 use crate::ids::AppId;
 
 /// The application of a packet among `apps`: its hash modulo their number, and application 0
@@ -12,7 +13,7 @@ pub fn app_of(hash: Option<u32>, apps: u8) -> AppId
     ensures within { result < apps }
 {
     match hash {
-        Some(hash) => AppId((hash % u32::from(apps)) as u8),
+        Some(hash) => AppId(remainder(hash, u32::from(apps)) as u8),
         None => AppId(0),
     }
 }
