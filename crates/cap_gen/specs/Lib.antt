@@ -1,4 +1,5 @@
 pub mod Packets
+pub mod Captures
 pub mod Flows
 pub mod PlanValues
 pub mod Plans

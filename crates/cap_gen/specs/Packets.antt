@@ -45,3 +45,7 @@ packet_of seed flows i = record {
 -- the first n packets of a seed, one word of the generator for each
 abbrev pub packets_of : (seed flows count : ℕ) → List Packet
 packets_of seed flows n = map (packet_of seed flows) (range_with_len 0 n)
+
+-- their frames
+abbrev pub frames_of : (seed flows count : ℕ) → List (List ℕ)
+frames_of seed flows n = map (λ packet. packet.frame) (packets_of seed flows n)

@@ -63,6 +63,18 @@ pub fn generate(
 {
     captures_read_back();
     let capture = capture_bytes(alloc, seed, packets, flows)?;
-    let plan = plan_text(alloc, seed, (4 * packets).min(MOST_STEPS))?;
+    let plan = generate_plan(alloc, seed, packets)?;
     Ok(Generated { capture, plan })
+}
+
+/// The text of the plan that `generate` makes: four steps of the seed for each packet, at most
+/// 999,999.
+pub fn generate_plan(alloc: Global, seed: u64, packets: u32) -> Result<Vec<u8>, OutOfMemory>
+    requires { packets ≤ MAX_PACKETS }
+    ensures text { IfOk result
+        (λ text. text.items ≡ compact_text (plan_value seed (generated_step_count packets))) }
+    ensures plan { IfOk result
+        (λ text. plan_of text.items ≡ Ok (plan_for seed (generated_step_count packets))) }
+{
+    Ok(plan_text(alloc, seed, (4 * packets).min(MOST_STEPS))?)
 }
