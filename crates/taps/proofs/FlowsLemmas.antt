@@ -44,11 +44,11 @@ fresh flows new = map (λ g. (g, times g flows)) new
 abbrev own : ℕ → List ℕ → Bool → List (ℕ × ℕ)
 own f fs b = cond b [] ((f, 1 + times f fs) ∷ [])
 
-inserted_here : (e : ℕ × ℕ) (es : List (ℕ × ℕ)) (f n : ℕ) → (f == e.0) ≡ true → insert_entry nat_eq
-    (e ∷ es) f n ≡ (e.0, n) ∷ es
+pub inserted_here : (e : ℕ × ℕ) (es : List (ℕ × ℕ)) (f n : ℕ) → (f == e.0) ≡ true
+    → insert_entry nat_eq (e ∷ es) f n ≡ (e.0, n) ∷ es
 inserted_here e es f n t = ap (λ b. cond b ((e.0, n) ∷ es) (e ∷ insert_entry nat_eq es f n)) t
 
-inserted_later : (e : ℕ × ℕ) (es : List (ℕ × ℕ)) (f n : ℕ) → (f == e.0) ≡ false
+pub inserted_later : (e : ℕ × ℕ) (es : List (ℕ × ℕ)) (f n : ℕ) → (f == e.0) ≡ false
     → insert_entry nat_eq (e ∷ es) f n ≡ e ∷ insert_entry nat_eq es f n
 inserted_later e es f n t = ap (λ b. cond b ((e.0, n) ∷ es) (e ∷ insert_entry nat_eq es f n)) t
 

@@ -1,3 +1,4 @@
+pub mod CountsLemmas
 pub mod CpusLemmas
 pub mod FlowsLemmas
 pub mod ShownLemmas
