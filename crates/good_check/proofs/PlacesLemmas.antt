@@ -7,7 +7,6 @@ use Rattle.std.specs.Option.{option_and_then, option_map}
 use Rattle.std.proofs.lemmas.List.{get_or_default}
 use Rattle.std.proofs.lemmas.List.Sums.{AllPass-from_list_all, list_all-from_AllPass}
 use Rattle.steer_base.specs.Entries.{place_in}
-use Rattle.steer_base.specs.declared.choice.Choice.{Choice}
 use Rattle.steer_base.specs.declared.packet.Packet.{Packet}
 use Rattle.history.specs.Finding.{is_among, is_in}
 use Rattle.history.specs.Known.{IsKnown}
@@ -23,7 +22,7 @@ use Rattle.history.proofs.FindingLemmas.{is_in-among}
 use Rattle.history.proofs.OwnLemmas.{own-first}
 use Rattle.history.proofs.PlaceLemmas.{among-place, within}
 use Rattle.history.proofs.RegularLemmas.{arrived-inbox, lane-accepted, some-is}
-use Rattle.history.proofs.SamePlaces.{map_some, place-index}
+use Rattle.history.proofs.SamePlaces.{place-index}
 use Rattle.good_check.specs.Places.{is_delivered_by, is_delivered_in}
 use Rattle.good_check.proofs.WantsLemmas.{within-lists}
 
@@ -36,52 +35,50 @@ among-to : (x n m : ℕ) (xs : List ℕ) → place_in x xs ≡ Some m → is_amo
     → nat_le m n ≡ true
 among-to x n m xs e a = sym (ap (within n) e) ∙ sym (among-place x n xs) ∙ a
 
--- over the own choice and the places in all lanes
-by-own-to : (lanes : List LaneList) (x : ℕ) (own : Option Choice) (place : Option ℕ)
-    → place ≡ option_and_then (λ c. place_in x (lane_at lanes c).accepted)
-    (option_map (λ d. d.lane) own)
+-- over the own lane and the places in all lanes
+by-own-to : (lanes : List LaneList) (x : ℕ) (own : Option ℕ) (place : Option ℕ)
+    → place ≡ option_and_then (λ c. place_in x (lane_at lanes c).accepted) own
     → is_delivered_by lanes own place ≡ true
     → (c : ℕ) × (is_among (lane_at lanes c).delivered x (lane_at lanes c).accepted ≡ true)
 by-own-to lanes x None place e t = absurd (cc)
 by-own-to lanes x (Some own) None e t = absurd (cc)
 by-own-to lanes x (Some own) (Some m) e t = (
-  own.lane,
-  among-from x (lane_at lanes own.lane).delivered m (lane_at lanes own.lane).accepted (sym e) t,
+  own,
+  among-from x (lane_at lanes own).delivered m (lane_at lanes own).accepted (sym e) t,
 )
 
-by-own-from : (lanes : List LaneList) (x c m : ℕ) (own : Option Choice) (place : Option ℕ)
-    → place ≡ option_and_then (λ c. place_in x (lane_at lanes c).accepted)
-    (option_map (λ d. d.lane) own)
-    → option_map (λ d. d.lane) own ≡ Some c
+by-own-from : (lanes : List LaneList) (x c m : ℕ) (own : Option ℕ) (place : Option ℕ)
+    → place ≡ option_and_then (λ c. place_in x (lane_at lanes c).accepted) own
+    → own ≡ Some c
     → place_in x (lane_at lanes c).accepted ≡ Some m
     → is_among (lane_at lanes c).delivered x (lane_at lanes c).accepted ≡ true
     → is_delivered_by lanes own place ≡ true
 by-own-from lanes x c m own place e o p a =
-    let w = map_some (λ d. d.lane) own c o in
     let there : place ≡ Some m =
     e ∙ ap (option_and_then (λ c. place_in x (lane_at lanes c).accepted)) o ∙ p in
     let l : nat_le m (lane_at lanes c).delivered ≡ true =
     among-to x (lane_at lanes c).delivered m (lane_at lanes c).accepted p a in
-    ap (λ k. is_delivered_by lanes k place) w.1
-    ∙ ap (is_delivered_by lanes (Some w.0)) there
-    ∙ ap (λ k. nat_le m (lane_at lanes k).delivered) (sym w.2) ∙ l
+    ap (λ k. is_delivered_by lanes k place) o ∙ ap (is_delivered_by lanes (Some c)) there ∙ l
 
 module _ (packets : List Packet) (apps : ℕ) (h : History) (regular : Regular packets apps h)
     (known : Known) (is : IsKnown h known) where
+  -- the lane of the choice of a packet
+  abbrev own_lane : ℕ → Option ℕ
+  own_lane x = option_map (λ d. d.lane) (choice_of h x)
+
   own-place : (x : ℕ) → accepted_place h.lanes x
-      ≡ option_and_then (λ c. place_in x (lane_at h.lanes c).accepted)
-      (option_map (λ d. d.lane) (choice_of h x))
+      ≡ option_and_then (λ c. place_in x (lane_at h.lanes c).accepted) (own_lane x)
   own-place x =
       own-first (λ lane. place_in x lane.accepted) no_lane h.lanes
-      (option_map (λ d. d.lane) (choice_of h x)) refl
+      (own_lane x) refl
       (λ c s. lane-accepted packets apps h regular c x s)
 
   known-as : (x : ℕ) → x < length h.arrivals
       → is_delivered_in h.lanes known x
-      ≡ is_delivered_by h.lanes (choice_of h x) (accepted_place h.lanes x)
+      ≡ is_delivered_by h.lanes (own_lane x) (accepted_place h.lanes x)
   known-as x l =
-      ap (λ o. is_delivered_by h.lanes o (get_or known.accepted x None)) (is.choices.slot x l)
-      ∙ ap (is_delivered_by h.lanes (choice_of h x)) (is.accepted.slot x l)
+      ap (λ o. is_delivered_by h.lanes o (get_or known.accepted x None)) (is.lanes.slot x l)
+      ∙ ap (is_delivered_by h.lanes (own_lane x)) (is.accepted.slot x l)
 
   abbrev test : ℕ → Bool
   test x = is_delivered_in h.lanes known x
@@ -89,7 +86,7 @@ module _ (packets : List Packet) (apps : ℕ) (h : History) (regular : Regular p
   one-to : (x : ℕ) → x < length h.arrivals → test x ≡ true
       → (c : ℕ) × (is_among (lane_at h.lanes c).delivered x (lane_at h.lanes c).accepted ≡ true)
   one-to x l t =
-      by-own-to h.lanes x (choice_of h x) (accepted_place h.lanes x) (own-place x)
+      by-own-to h.lanes x (own_lane x) (accepted_place h.lanes x) (own-place x)
       (sym (known-as x l) ∙ t)
 
   one-from : (x c : ℕ) → x < length h.arrivals
@@ -100,7 +97,7 @@ module _ (packets : List Packet) (apps : ℕ) (h : History) (regular : Regular p
       is_in-among (lane_at h.lanes c).delivered x (lane_at h.lanes c).accepted a in
       let p = some-is (place_in x (lane_at h.lanes c).accepted) s in
       known-as x l
-      ∙ by-own-from h.lanes x c p.0 (choice_of h x) (accepted_place h.lanes x) (own-place x)
+      ∙ by-own-from h.lanes x c p.0 (own_lane x) (accepted_place h.lanes x) (own-place x)
       (lane-accepted packets apps h regular c x s) p.1 a
 
   pub places-to : list_all (list_all test) h.inboxes ≡ true → AreInOnePlace h

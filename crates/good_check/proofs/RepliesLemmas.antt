@@ -17,7 +17,6 @@ use Rattle.steer_base.specs.Entries.{entry, place_in}
 use Rattle.steer_base.specs.Entries.{position as place_of}
 use Rattle.steer_base.specs.Orders.{IsPrefix}
 use Rattle.steer_base.specs.Sets.{has}
-use Rattle.steer_base.specs.declared.choice.Choice.{Choice}
 use Rattle.steer_base.specs.declared.choice.Chosen.{Chosen}
 use Rattle.steer_base.specs.declared.command.Answer.TheVariants as says
 use Rattle.steer_base.specs.declared.command.Command.TheVariants as give
@@ -56,7 +55,7 @@ use Rattle.steer_model.specs.State.Setup.{flow_number_of, packet_hash}
 use Rattle.steer_model.specs.State.Start.{initial_settings}
 use Rattle.steer_model.specs.Steps.Applications.{everyone, nothing_sent}
 use Rattle.xps_map.specs.Maps.{picked}
-use Rattle.good_check.specs.Positions.{position_by}
+use Rattle.good_check.specs.Positions.{position_in}
 use Rattle.good_check.specs.Replies.{HasReplied, is_from, reply_pick, tx_position, tx_questions}
 use Rattle.good_check.proofs.ChoicesLemmas.{put-agrees}
 use Rattle.good_check.proofs.PositionsLemmas.{at-own, nowhere}
@@ -67,25 +66,25 @@ use Rattle.good_check.proofs.WantsLemmas.{settings-now, within-lists}
 module _ (packets : List Packet) (apps : ℕ) (h : History) (regular : Regular packets apps h)
     (known : Known) (is : IsKnown h known) where
   at-replied : (c : Chosen) → c.id < length h.arrivals
-      → position_by h.start (get_or known.tx_choices c.id None)
+      → position_in h.start (get_or known.tx_lanes c.id None)
       (get_or known.tx_accepted c.id None) c.choice.lane
       ≡ tx_position h c
   at-replied c l =
       let places = λ (lane : ℕ). place_in c.id (lane_at h.tx_lanes lane).accepted in
-      let own : Option Choice = tx_choice_of h c.id in
+      let own : Option ℕ = option_map (λ d. d.lane) (tx_choice_of h c.id) in
       let first : accepted_place h.tx_lanes c.id
-      ≡ option_and_then places (option_map (λ d. d.lane) own) =
+      ≡ option_and_then places own =
       own-first (λ lane. place_in c.id lane.accepted) no_lane h.tx_lanes
-      (option_map (λ d. d.lane) own) refl
+      own refl
       (λ lane s. tx_lane-accepted packets apps h regular lane c.id s) in
-      ap (λ o. position_by h.start o (get_or known.tx_accepted c.id None) c.choice.lane)
-      (is.tx_choices.slot c.id l)
-      ∙ ap (λ o. position_by h.start own o c.choice.lane) (is.tx_accepted.slot c.id l ∙ first)
+      ap (λ o. position_in h.start o (get_or known.tx_accepted c.id None) c.choice.lane)
+      (is.tx_lanes.slot c.id l)
+      ∙ ap (λ o. position_in h.start own o c.choice.lane) (is.tx_accepted.slot c.id l ∙ first)
       ∙ at-own h.start c.choice.lane own places (λ lane n e.
       tx_lane-accepted packets apps h regular lane c.id (ap is_some e))
 
   beyond : (c : Chosen) → length h.arrivals ≤ c.id
-      → position_by h.start (get_or known.tx_choices c.id None)
+      → position_in h.start (get_or known.tx_lanes c.id None)
       (get_or known.tx_accepted c.id None) c.choice.lane
       ≡ tx_position h c
   beyond c l =
@@ -93,19 +92,36 @@ module _ (packets : List Packet) (apps : ℕ) (h : History) (regular : Regular p
       nowhere c.id (lane_at h.tx_lanes c.choice.lane).accepted (λ s.
       let k = arrived-shipped packets apps h regular c.choice.lane c.id s in omega (arith, k, l))
       in
-      let slot : get_or known.tx_choices c.id None ≡ None =
-      get_or-eq_default known.tx_choices None (omega (arith, is.tx_choices.width, l)) in
-      ap (λ o. position_by h.start o (get_or known.tx_accepted c.id None) c.choice.lane) slot
+      let slot : get_or known.tx_lanes c.id None ≡ None =
+      get_or-eq_default known.tx_lanes None (omega (arith, is.tx_lanes.width, l)) in
+      ap (λ o. position_in h.start o (get_or known.tx_accepted c.id None) c.choice.lane) slot
       ∙ sym (ap (option_map (number h.start)) none)
 
   pub tx_position-known : (c : Chosen)
-      → position_by h.start (get_or known.tx_choices c.id None)
+      → position_in h.start (get_or known.tx_lanes c.id None)
       (get_or known.tx_accepted c.id None) c.choice.lane
       ≡ tx_position h c
   tx_position-known c = elim (cases_lt c.id (length h.arrivals)) [
     | inl l ↦ at-replied c l
     | inr l ↦ beyond c l
   ]
+
+-- the queue of an arrival, among those of all arrivals
+pub queue-among : (arrivals : List Arrival) (queues : List ℕ) (x : ℕ)
+    → queues ≡ map (λ arrival. arrival.queue) arrivals
+    → get_or queues x 0 ≡ (get_or arrivals x no_arrival).queue
+queue-among arrivals queues x e = ap (λ qs. get_or qs x 0) e ∙ within
+  where
+    queue : Arrival → ℕ
+    queue arrival = arrival.queue
+
+    within : get_or (map queue arrivals) x 0 ≡ (get_or arrivals x no_arrival).queue
+    within = elim (cases_lt x (length arrivals)) [
+      | inl l ↦ get_or-map queue arrivals x no_arrival 0 l
+      | inr l ↦
+          get_or-eq_default (map queue arrivals) 0 (omega (arith, l, length-map arrivals queue))
+          ∙ ap queue (sym (get_or-eq_default arrivals no_arrival l))
+    ]
 
 -- ---- the clause
 

@@ -197,7 +197,7 @@ module _ (i : Input) (h : History) (flows : AreOfFlows i.packets)
 
   kept-is : (y : ℕ) → y < length h.arrivals → was_kept known y ≡ not (was_dropped drops y)
   kept-is y l =
-      ap (λ o. not (is_some o)) (is.drops.slot y l) ∙ ap not (dropped-is y h.lanes)
+      ap (λ o. not (is_some o)) (is.drops y l) ∙ ap not (dropped-is y h.lanes)
 
   came-is : (q x : ℕ) → x < count
       → in_class classes (class q x) came

@@ -5,7 +5,7 @@ ghost use Rattle.good_check.specs.Choices.{rx_position};
 ghost use Rattle.good_check.specs.Positions.{position_in};
 
 use crate::case::Case;
-use crate::positions::{lane_at, own_lanes, position_in};
+use crate::positions::position_in;
 use dev_flow_table::DevTable;
 use history::{History, Known};
 use rule_check::{Producer, Question, are_by_rule};
@@ -20,13 +20,12 @@ pub(crate) struct Poller<'a> {
     settings: &'a InForce,
     h: &'a History,
     known: &'a Known,
-    lanes: &'a [Option<u8>],
     q: u8,
     ghost has_home: { q < length given.now.homes },
     ghost has_mask: { q < length settings.now.masks },
     ghost has_count: { q < length settings.now.counts },
     ghost are_known: { (c : AChosen) → position_in h.now.start
-        (slice_index_or lanes.now c.id None) (slice_index_or known.now.accepted c.id None)
+        (slice_index_or known.now.lanes c.id None) (slice_index_or known.now.accepted c.id None)
         c.choice.lane ≡ rx_position h.now c },
 }
 
@@ -46,7 +45,7 @@ impl<'a> Producer for Poller<'a> {
             desired: desired_cpu(class, want, self.settings.online(), plain.0),
             position: position_in(
                 self.h.start,
-                lane_at(self.lanes, chosen.id),
+                self.known.lanes.get(chosen.id),
                 self.known.accepted.get(chosen.id),
                 chosen.choice.lane,
             ),
@@ -67,12 +66,10 @@ impl Case<'_> {
     ghost use Rattle.steer_model.specs.Good.GoodHistory.{never};
     ghost use Rattle.good_check.specs.Cases.{IsPlain, input_of};
     ghost use Rattle.good_check.specs.Choices.{HasChosen, rx_questions};
-    ghost use Rattle.good_check.specs.Positions.{AreLanesOf};
 
     // Whether a queue has a choice for each packet that was taken, each by the rule.
-    fn has_chosen(&self, alloc: Global, q: u8, lanes: &[Option<u8>]) -> Result<bool, OutOfMemory>
+    fn has_chosen(&self, alloc: Global, q: u8) -> Result<bool, OutOfMemory>
         requires plain { IsPlain self.now }
-        requires lanes { AreLanesOf self.now.known.now.choices lanes.now }
         requires queue { q < length self.now.plan.now.queues }
         requires queues { length self.now.h.now.taken ≡ length self.now.plan.now.queues }
         ensures yes { IfOk result (λ r. r ≡ true
@@ -91,7 +88,6 @@ impl Case<'_> {
             settings: self.settings,
             h: self.h,
             known: self.known,
-            lanes,
             q,
         };
         Ok(are_by_rule(&mut table, choices, &poller))
@@ -111,9 +107,8 @@ impl Case<'_> {
         ensures no { IfOk result (λ r. ChoicesAreByRule (input_of self.now) self.now.h.now never
             → r ≡ true) }
     {
-        let lanes = own_lanes(alloc, &self.known.choices, self.given.packet_count())?;
         for q in 0..self.given.queues() {
-            if !self.has_chosen(alloc, q, &lanes)? {
+            if !self.has_chosen(alloc, q)? {
                 return Ok(false);
             }
         }

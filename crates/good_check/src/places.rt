@@ -5,7 +5,7 @@ ghost use Rattle.good_check.specs.Places.{is_delivered_by};
 
 use crate::case::Case;
 use history::LaneList;
-use steer_base::{Choice, List, PacketId};
+use steer_base::{List, PacketId};
 
 // How many packets a lane delivered in the end.
 fn delivered(lanes: &List<LaneList>, lane: u8) -> u32
@@ -17,8 +17,8 @@ fn delivered(lanes: &List<LaneList>, lane: u8) -> u32
     }
 }
 
-// Whether a packet with this own choice and place is among the delivered ones of its lane.
-fn is_delivered_by(lanes: &List<LaneList>, own: Option<Choice>, place: Option<u32>) -> bool
+// Whether a packet with this own lane and place is among the delivered ones of its lane.
+fn is_delivered_by(lanes: &List<LaneList>, own: Option<u8>, place: Option<u32>) -> bool
     ensures { result ≡ is_delivered_by lanes.now own place }
 {
     let Some(own) = own else {
@@ -26,7 +26,7 @@ fn is_delivered_by(lanes: &List<LaneList>, own: Option<Choice>, place: Option<u3
     };
     match place {
         None => false,
-        Some(place) => place <= delivered(lanes, own.lane),
+        Some(place) => place <= delivered(lanes, own),
     }
 }
 
@@ -43,7 +43,7 @@ impl Case<'_> {
     {
         is_delivered_by(
             &self.h.lanes,
-            self.known.choices.get(id),
+            self.known.lanes.get(id),
             self.known.accepted.get(id),
         )
     }

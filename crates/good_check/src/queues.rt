@@ -7,7 +7,7 @@ ghost use Rattle.rule_check.specs.Pairs.{has_pair};
 ghost use Rattle.good_check.specs.Queues.{filter_is_in};
 
 use crate::case::Case;
-use crate::positions::position_by;
+use crate::positions::position_in;
 use history::Arrival;
 use rule_check::PairSet;
 use std::alloc::Global;
@@ -84,9 +84,9 @@ impl Case<'_> {
         requires plain { IsPlain self.now }
         ensures { result ≡ is_some (rx_position self.now.h.now chosen.now) }
     {
-        position_by(
+        position_in(
             self.h.start,
-            self.known.choices.get(chosen.id),
+            self.known.lanes.get(chosen.id),
             self.known.accepted.get(chosen.id),
             chosen.choice.lane,
         )

@@ -1,5 +1,5 @@
 //! Clause 11: the replies are by the rule, and they leave in order.
-ghost use Rattle.std.specs.Prelude.{◌≡◌, ◌<◌, None, length, slice_index_or};
+ghost use Rattle.std.specs.Prelude.{◌≡◌, ◌<◌, None, length, map, slice_index_or};
 ghost use Rattle.std.specs.List.{list_all};
 ghost use Rattle.steer_base.specs.declared.choice.Chosen.{Chosen as AChosen};
 ghost use Rattle.history.specs.Lists.{no_arrival};
@@ -7,7 +7,7 @@ ghost use Rattle.good_check.specs.Positions.{position_in};
 ghost use Rattle.good_check.specs.Replies.{is_from, reply_pick, tx_position};
 
 use crate::case::Case;
-use crate::positions::{lane_at, own_lanes, position_in};
+use crate::positions::position_in;
 use dev_flow_table::DevTable;
 use history::{History, Known, Sent};
 use rule_check::{Producer, Question, are_by_rule};
@@ -25,12 +25,23 @@ pub(crate) struct Sender<'a> {
     settings: &'a InForce,
     h: &'a History,
     known: &'a Known,
-    lanes: &'a [Option<u8>],
+    queues: &'a [RxQueue],
     a: u8,
+    ghost are_queues: { queues.now ≡ map (λ arrival. arrival.queue) h.now.arrivals },
     ghost has_stand: { a < length settings.now.stands },
     ghost are_known: { (c : AChosen) → position_in h.now.start
-        (slice_index_or lanes.now c.id None)
+        (slice_index_or known.now.tx_lanes c.id None)
         (slice_index_or known.now.tx_accepted c.id None) c.choice.lane ≡ tx_position h.now c },
+}
+
+// The queue of a packet among those of the packets that arrived; queue 0 if it did not.
+fn queue_at(queues: &[RxQueue], id: PacketId) -> RxQueue
+    ensures { result ≡ slice_index_or queues.now id 0 }
+{
+    match queues.get(id.0 as usize) {
+        Some(queue) => *queue,
+        None => RxQueue(0),
+    }
 }
 
 impl Sender<'_> {
@@ -38,10 +49,7 @@ impl Sender<'_> {
     fn queue_of(&self, id: PacketId) -> RxQueue
         ensures { result ≡ (slice_index_or self.now.h.now.arrivals id no_arrival).queue }
     {
-        match self.h.arrivals.as_slice().get(id.0 as usize) {
-            Some(arrival) => arrival.queue,
-            None => RxQueue(0),
-        }
+        queue_at(self.queues, id)
     }
 
     // The transmit queue that the maps pick for the reply to a packet.
@@ -68,7 +76,7 @@ impl<'a> Producer for Sender<'a> {
             desired: pick,
             position: position_in(
                 self.h.start,
-                lane_at(self.lanes, chosen.id),
+                self.known.tx_lanes.get(chosen.id),
                 self.known.tx_accepted.get(chosen.id),
                 chosen.choice.lane,
             ),
@@ -88,14 +96,13 @@ fn are_from(cpu: Cpu, sent: &List<Sent>) -> bool
 }
 
 impl Case<'_> {
-    ghost use Rattle.std.specs.Prelude.{ℕ, ◌≡◌, ◌<◌, ◌≤◌, IfOk, length, true};
+    ghost use Rattle.std.specs.Prelude.{ℕ, ◌≡◌, ◌<◌, ◌≤◌, IfOk, length, map, true};
     ghost use Rattle.dev_flow_table.specs.declared.table.TheConstants.{MAX_EXACT_CLASSES};
     ghost use Rattle.steer_model.specs.Good.Deliveries.{IsSwept};
     ghost use Rattle.steer_model.specs.Good.GoodHistory.{never};
     ghost use Rattle.steer_model.specs.Good.Replies.{RepliesAreByRule};
     ghost use Rattle.steer_model.specs.State.Setup.{flow_number_of};
     ghost use Rattle.good_check.specs.Cases.{IsPlain, input_of};
-    ghost use Rattle.good_check.specs.Positions.{AreLanesOf};
     ghost use Rattle.good_check.specs.Replies.{HasReplied};
 
     // One more than the greatest flow number of a packet. A packet beyond the capture has 0.
@@ -117,10 +124,10 @@ impl Case<'_> {
         alloc: Global,
         a: u8,
         flows: u32,
-        lanes: &[Option<u8>],
+        queues: &[RxQueue],
     ) -> Result<bool, OutOfMemory>
         requires plain { IsPlain self.now }
-        requires lanes { AreLanesOf self.now.known.now.tx_choices lanes.now }
+        requires queues { queues.now ≡ map (λ arrival. arrival.queue) self.now.h.now.arrivals }
         requires app { a < length self.now.plan.now.apps }
         requires above { (x : ℕ) → flow_number_of self.now.given.now x < flows }
         requires few { flows ≤ MAX_EXACT_CLASSES }
@@ -141,10 +148,22 @@ impl Case<'_> {
             settings: self.settings,
             h: self.h,
             known: self.known,
-            lanes,
+            queues,
             a,
         };
         Ok(are_by_rule(&mut table, choices, &sender))
+    }
+
+    // The queue of each packet that arrived: less memory to look it up in.
+    fn arrival_queues(&self, alloc: Global) -> Result<Vec<RxQueue>, OutOfMemory>
+        ensures { IfOk result (λ queues.
+            queues.items ≡ map (λ arrival. arrival.queue) self.now.h.now.arrivals) }
+    {
+        let mut queues = Vec::with_capacity(alloc, self.h.arrivals.len())?;
+        for arrival in self.h.arrivals.as_slice() {
+            queues.push(arrival.queue)?;
+        }
+        Ok(queues)
     }
 
     // Whether all applications have, with tables of so many classes.
@@ -158,9 +177,9 @@ impl Case<'_> {
             → HasReplied self.now.given.now self.now.settings.now self.now.h.now flows a)
             → r ≡ true) }
     {
-        let lanes = own_lanes(alloc, &self.known.tx_choices, self.given.packet_count())?;
+        let queues = self.arrival_queues(alloc)?;
         for a in 0..self.given.apps() {
-            if !self.has_replied(alloc, a, flows, &lanes)? {
+            if !self.has_replied(alloc, a, flows, &queues)? {
                 return Ok(false);
             }
         }

@@ -37,7 +37,7 @@ impl Case<'_> {
         ensures { result ≡ has_ended self.now.h.now id }
     {
         match self.known.inboxes.get(id) {
-            Some(_) => self.known.sent.get(id).is_some() && self.known.port.get(id).is_some(),
+            Some(_) => self.known.senders.get(id).is_some() && self.known.port.get(id).is_some(),
             None => self.known.drops.get(id).is_some(),
         }
     }

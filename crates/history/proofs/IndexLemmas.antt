@@ -108,21 +108,44 @@ module _ {A B T : Type 0} (key : A → ℕ) (value : ℕ → A → T) (of : B �
       }
 
 -- What a list has of a packet, in the words of a line.
-pub value_at-choices : (x : ℕ) (cs : List Chosen) (i : ℕ) → value_at (λ c. c.id)
-    (λ i c. c.choice) i x cs ≡ choice_in x cs
-value_at-choices x [] i = refl
-value_at-choices x (c ∷ cs) i = elim (cases_Bool (x == c.id)) [
+pub value_at-lanes : (x : ℕ) (cs : List Chosen) (i : ℕ) → value_at (λ c. c.id)
+    (λ i c. c.choice.lane) i x cs ≡ option_map (λ c. c.lane) (choice_in x cs)
+value_at-lanes x [] i = refl
+value_at-lanes x (c ∷ cs) i = elim (cases_Bool (x == c.id)) [
   | inl t ↦ rw t refl
-  | inr t ↦ rw t (value_at-choices x cs (suc i))
+  | inr t ↦ rw t (value_at-lanes x cs (suc i))
 ]
 
-pub value_at-found : {A : Type 0} (key : A → ℕ) (x : ℕ) (xs : List A) (i : ℕ) → value_at key
-    (λ i a. a) i x xs ≡ found key x xs
-value_at-found key x [] i = refl
-value_at-found key x (a ∷ rest) i = elim (cases_Bool (x == key a)) [
+pub value_at-mapped : {A T : Type 0} (f : A → T) (key : A → ℕ) (x : ℕ) (xs : List A) (i : ℕ)
+    → value_at key (λ i a. f a) i x xs ≡ option_map f (found key x xs)
+value_at-mapped f key x [] i = refl
+value_at-mapped f key x (a ∷ rest) i = elim (cases_Bool (x == key a)) [
   | inl t ↦ rw t refl
-  | inr t ↦ rw t (value_at-found key x rest (suc i))
+  | inr t ↦ rw t (value_at-mapped f key x rest (suc i))
 ]
+
+map-or : {T U : Type 0} (f : T → U) (o p : Option T)
+    → option_or (option_map f o) (option_map f p) ≡ option_map f (option_or o p)
+map-or f None p = refl
+map-or f (Some a) p = refl
+
+first_some-map : {A T U : Type 0} (f : T → U) (look : A → Option T) (xs : List A)
+    → first_some (λ a. option_map f (look a)) xs ≡ option_map f (first_some look xs)
+first_some-map f look [] = refl
+first_some-map f look (a ∷ rest) =
+    ap (option_or (option_map f (look a))) (first_some-map f look rest)
+    ∙ map-or f (look a) (first_some look rest)
+
+-- the index of a part of what is found, after the passes over all lists
+pub index-mapped : {A T U : Type 0} (f : T → U) (look : ℕ → A → Option T) (count : ℕ)
+    (slots : List (Option U)) (some all : List A) → some ≡ all
+    → IsIndex count slots (λ x. first_some (λ a. option_map f (look x a)) some)
+    → IsIndex count slots (λ x. option_map f (first_some (look x) all))
+index-mapped f look count slots some all same is = record {
+  width = is.width;
+  slot = λ x l. is.slot x l ∙ first_some-map f (look x) some
+      ∙ ap (λ xs. option_map f (first_some (look x) xs)) same;
+}
 
 map-suc : {T : Type 0} (f : ℕ → T) (i : ℕ) (o : Option ℕ) → option_map
     (λ n. f (suc i + n)) o ≡ option_map (λ n. f (i + n)) (option_map suc o)

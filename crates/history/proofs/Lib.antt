@@ -4,6 +4,7 @@ pub mod ExampleLemmas
 pub mod Examples
 pub mod FindingLemmas
 pub mod FoundAgain
+mod InOrderLemmas
 mod IndexLemmas
 mod LinesFit
 mod LinesLemmas

@@ -1,6 +1,7 @@
 -- What the passes over the lists of a history say about each packet.
-use Rattle.std.specs.Prelude.{ℕ, ◌<◌, ◌^◌, ◌&&◌, List, Option, Some, None, length, nat_lt, nat_le}
-use Rattle.std.specs.Prelude.{if◌then◌else◌}
+use Rattle.std.specs.Prelude.{ℕ, ◌≡◌, ◌<◌, ◌^◌, ◌&&◌, List, Option, Some, None, length, nat_lt}
+use Rattle.std.specs.Prelude.{if◌then◌else◌, nat_le, slice_index_or}
+use Rattle.std.specs.Option.{option_map}
 use Rattle.steer_base.specs.Entries.{place_in}
 use Rattle.history.specs.Finding.{first_some}
 use Rattle.history.specs.Index.{IsIndex}
@@ -21,12 +22,15 @@ pub record HasShortLists (h : History) : Type 0 where
 
 -- the index of a history has for each packet that arrived what its lines show
 pub record IsKnown (h : History) (k : Known) : Type 0 where
-  pub choices : IsIndex (length h.arrivals) k.choices (choice_of h)
+  pub lanes : IsIndex (length h.arrivals) k.lanes (λ x. option_map (λ c. c.lane) (choice_of h x))
   pub accepted : IsIndex (length h.arrivals) k.accepted (accepted_place h.lanes)
-  pub drops : IsIndex (length h.arrivals) k.drops (λ x. first_some (drop_in x) h.lanes)
+  pub drops : (x : ℕ) → x < length h.arrivals
+      → slice_index_or k.drops x None ≡ first_some (drop_in x) h.lanes
   pub inboxes : IsIndex (length h.arrivals) k.inboxes (inbox_place_of h)
-  pub sent : IsIndex (length h.arrivals) k.sent (first_reply_to h)
-  pub tx_choices : IsIndex (length h.arrivals) k.tx_choices (tx_choice_of h)
+  pub senders : IsIndex (length h.arrivals) k.senders
+      (λ x. option_map (λ s. s.cpu) (first_reply_to h x))
+  pub tx_lanes : IsIndex (length h.arrivals) k.tx_lanes
+      (λ x. option_map (λ c. c.lane) (tx_choice_of h x))
   pub tx_accepted : IsIndex (length h.arrivals) k.tx_accepted (accepted_place h.tx_lanes)
   pub port : IsIndex (length h.arrivals) k.port (λ x. place_in x h.port)
 

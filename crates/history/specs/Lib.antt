@@ -1,5 +1,6 @@
 pub mod Counted
 pub mod Finding
+pub mod InOrder
 pub mod Index
 pub mod Known
 pub mod Lines

@@ -1,20 +1,25 @@
 //! The lines of all packets and replies of a history.
 ghost use Rattle.std.specs.Prelude.{◌≡◌, ℕ, ◌<◌, ◌≤◌, None, is_some, length, slice_index};
 ghost use Rattle.std.specs.Prelude.{slice_index_or, IfOk};
+ghost use Rattle.std.specs.Option.{option_map};
 ghost use Rattle.steer_base.specs.declared.limits.TheConstants.{MAX_PACKETS};
+ghost use Rattle.history.specs.InOrder.{begun_of};
 ghost use Rattle.history.specs.Lines.{is_replied, lines_of, packet_line, reply_line};
 ghost use Rattle.history.specs.Lists.{arrivals_at};
 ghost use Rattle.history.specs.declared.packet_line.PacketLine.{PacketLine};
 ghost use Rattle.history.specs.Regular.{Regular};
 
+pub mod begun;
+pub mod in_order;
 pub mod making;
 pub mod slots;
 
 use crate::history::History;
 use crate::known::counted::Counted;
+use crate::lines::begun::Begun;
 use crate::packet_line::PacketLine;
 use crate::reply_line::ReplyLine;
-use making::{packet_line, reply_line};
+use making::{begun_reply, packet_line, reply_line};
 use slots::Slots;
 use std::alloc::Global;
 use std::marker::Model;
@@ -87,6 +92,13 @@ impl<'a> Lines<'a> {
         self.history.arrivals.len()
     }
 
+    // The number of packets that arrived, which is within 32 bits.
+    pub(crate) fn arrived(&self) -> u32
+        ensures { result ≡ length self.now.replies }
+    {
+        self.history.arrivals.len() as u32
+    }
+
     /// The line of a packet that arrived.
     pub fn packet(&self, id: PacketId) -> PacketLine
         requires { id < length self.now.packets }
@@ -100,10 +112,36 @@ impl<'a> Lines<'a> {
     pub fn reply(&self, id: PacketId) -> Option<ReplyLine>
         ensures { result ≡ slice_index_or self.now.replies id None }
     {
+        self.reply_with(id, self.begun(id))
+    }
+
+    // What the lists say of the reply to a packet, if one was begun.
+    pub(crate) fn begun(&self, id: PacketId) -> Option<Begun>
+        ensures { result ≡ option_map begun_of (slice_index_or self.now.replies id None) }
+    {
         if id.0 as usize >= self.history.arrivals.len() {
             return None;
         }
-        reply_line(self.history, &self.slots, self.packets, self.apps, id)
+        begun_reply(self.history, &self.slots, self.packets, self.apps, id)
+    }
+
+    // The line of the reply to a packet of which the lists say this.
+    pub(crate) fn reply_with(&self, id: PacketId, begun: Option<Begun>) -> Option<ReplyLine>
+        requires { begun ≡ option_map begun_of (slice_index_or self.now.replies id None) }
+        ensures { result ≡ slice_index_or self.now.replies id None }
+    {
+        if id.0 as usize >= self.history.arrivals.len() {
+            return None;
+        }
+        let begun = begun?;
+        Some(reply_line(
+            self.history,
+            &self.slots,
+            self.packets,
+            self.apps,
+            begun,
+            id,
+        ))
     }
 
     /// The number of receive queues.

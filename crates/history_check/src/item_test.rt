@@ -30,7 +30,7 @@ impl ItemTest<'_> {
         ensures { result ≡ is_accepted self.now.h.now cpu index id }
     {
         (id.0 as usize) < self.h.arrivals.len()
-            && lane_is(self.known.choices.get(id), cpu)
+            && lane_is(self.known.lanes.get(id), cpu)
             && is_place(self.known.accepted.get(id), index)
             && self.known.drops.get(id).is_none()
     }
@@ -40,7 +40,7 @@ impl ItemTest<'_> {
         ensures { result ≡ is_fallen self.now.h.now cpu index id }
     {
         (id.0 as usize) < self.h.arrivals.len()
-            && lane_is(self.known.choices.get(id), cpu)
+            && lane_is(self.known.lanes.get(id), cpu)
             && drop_is(self.known.drops.get(id), index)
     }
 
@@ -120,7 +120,7 @@ impl ItemTest<'_> {
         ensures { result ≡ is_queued self.now.h.now tx index id }
     {
         (id.0 as usize) < self.h.arrivals.len()
-            && lane_is(self.known.tx_choices.get(id), tx)
+            && lane_is(self.known.tx_lanes.get(id), tx)
             && is_place(self.known.tx_accepted.get(id), index)
     }
 

@@ -3,7 +3,7 @@ ghost use Rattle.std.specs.Prelude.{◌≡◌};
 ghost use Rattle.std.specs.Option.{option_map};
 ghost use Rattle.history_check.specs.Tests.{drop_number, is_number, is_place};
 
-use steer_base::{Choice, Put};
+use steer_base::Put;
 
 // Whether a number is there, and is this one.
 pub(crate) fn is_number(number: Option<u32>, wanted: usize) -> bool
@@ -25,12 +25,12 @@ pub(crate) fn is_place(place: Option<u32>, index: usize) -> bool
     }
 }
 
-// The lane of the choice for a packet, if there is one.
-pub(crate) fn lane_is(choice: Option<Choice>, lane: usize) -> bool
-    ensures { result ≡ is_number (option_map (λ c. c.lane) choice) lane }
+// Whether a lane was chosen for a packet, and is this one.
+pub(crate) fn lane_is(own: Option<u8>, lane: usize) -> bool
+    ensures { result ≡ is_number own lane }
 {
-    match choice {
-        Some(choice) => choice.lane as usize == lane,
+    match own {
+        Some(own) => own as usize == lane,
         None => false,
     }
 }

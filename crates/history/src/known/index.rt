@@ -1,6 +1,8 @@
 //! One slot for each packet, filled in one pass over each list of a history.
 ghost use Rattle.std.specs.Prelude.{◌≡◌, ℕ, ◌<◌, ◌+◌, ◌^◌, None, length, slice_index_or, replicate};
-ghost use Rattle.std.specs.Prelude.{IfOk};
+ghost use Rattle.std.specs.Prelude.{IfOk, nat_lt};
+ghost use Rattle.std.specs.List.{list_any};
+ghost use Rattle.std.specs.Option.{option_map};
 ghost use Rattle.steer_base.specs.Entries.{place_in};
 ghost use Rattle.steer_base.specs.declared.put.Put.TheVariants.{Dropped as dropped};
 ghost use Rattle.history.specs.Finding.{first_some, found};
@@ -13,7 +15,7 @@ use crate::lane_list::LaneList;
 use crate::sent::Sent;
 use std::alloc::Global;
 use std::marker::Model;
-use steer_base::{Choice, Chosen, LaneDrop, List, OutOfMemory, PacketId, Put};
+use steer_base::{Chosen, Cpu, LaneDrop, List, OutOfMemory, PacketId, Put};
 
 /// One slot for each packet. The first value that is noted for a packet stays.
 #[derive(Drop)]
@@ -62,49 +64,51 @@ impl<T: Copy> Index<T> {
     }
 }
 
-// The choice for each packet.
-pub(crate) fn index_choices(
+// The lane of the choice for each packet.
+pub(crate) fn index_lanes(
     alloc: Global,
     count: usize,
     lists: &List<List<Chosen>>,
-) -> Result<Index<Choice>, OutOfMemory>
-    ensures { IfOk result (λ i. IsIndex count i (λ x. first_some (choice_in x) lists.now)) }
+) -> Result<Index<u8>, OutOfMemory>
+    ensures { IfOk result (λ i. IsIndex count i
+        (λ x. option_map (λ c. c.lane) (first_some (choice_in x) lists.now))) }
 {
     let mut index = Index::empty(alloc, count)?;
     for list in lists.as_slice() {
-        note_choices(&mut index, list);
+        note_lanes(&mut index, list);
     }
     Ok(index)
 }
 
-fn note_choices(index: &mut Index<Choice>, list: &List<Chosen>)
-    ensures { index.new ≡ noted_by (λ c. c.id) (λ i c. c.choice) 0 index.old list.now }
+fn note_lanes(index: &mut Index<u8>, list: &List<Chosen>)
+    ensures { index.new ≡ noted_by (λ c. c.id) (λ i c. c.choice.lane) 0 index.old list.now }
 {
     for chosen in list.as_slice() {
-        index.note(chosen.id, chosen.choice);
+        index.note(chosen.id, chosen.choice.lane);
     }
 }
 
-// The reply to each packet.
-pub(crate) fn index_sent(
+// The processor of the reply to each packet.
+pub(crate) fn index_senders(
     alloc: Global,
     count: usize,
     lists: &List<List<Sent>>,
-) -> Result<Index<Sent>, OutOfMemory>
-    ensures { IfOk result (λ i. IsIndex count i (λ x. first_some (found (λ s. s.id) x) lists.now)) }
+) -> Result<Index<Cpu>, OutOfMemory>
+    ensures { IfOk result (λ i. IsIndex count i
+        (λ x. option_map (λ s. s.cpu) (first_some (found (λ s. s.id) x) lists.now))) }
 {
     let mut index = Index::empty(alloc, count)?;
     for list in lists.as_slice() {
-        note_sent(&mut index, list);
+        note_senders(&mut index, list);
     }
     Ok(index)
 }
 
-fn note_sent(index: &mut Index<Sent>, list: &List<Sent>)
-    ensures { index.new ≡ noted_by (λ s. s.id) (λ i s. s) 0 index.old list.now }
+fn note_senders(index: &mut Index<Cpu>, list: &List<Sent>)
+    ensures { index.new ≡ noted_by (λ s. s.id) (λ i s. s.cpu) 0 index.old list.now }
 {
     for sent in list.as_slice() {
-        index.note(sent.id, *sent);
+        index.note(sent.id, sent.cpu);
     }
 }
 
@@ -164,7 +168,7 @@ fn note_places(index: &mut Places, list: &List<PacketId>)
 }
 
 // The drop of each packet, with its number.
-pub(crate) fn index_drops(
+fn index_drops(
     alloc: Global,
     count: usize,
     lanes: &List<LaneList>,
@@ -194,4 +198,28 @@ fn note_drops(index: &mut Index<Put>, list: &List<LaneDrop>)
         };
         index.note(fallen.id, put);
     }
+}
+
+// The drop of each packet, with its number. It takes no memory where no lane dropped a packet.
+pub(crate) fn some_drops(
+    alloc: Global,
+    count: usize,
+    lanes: &List<LaneList>,
+) -> Result<Index<Put>, OutOfMemory>
+    requires { (c : ℕ) → length (lane_at lanes.now c).drops < 2 ^ 32 }
+    ensures { IfOk result (λ i. (x : ℕ) → x < count
+        → slice_index_or i x None ≡ first_some (drop_in x) lanes.now) }
+{
+    if has_drops(lanes) {
+        index_drops(alloc, count, lanes)
+    } else {
+        Index::empty(alloc, 0)
+    }
+}
+
+// Whether a lane dropped a packet.
+fn has_drops(lanes: &List<LaneList>) -> bool
+    ensures { result ≡ list_any (λ lane. nat_lt 0 (length lane.drops)) lanes.now }
+{
+    lanes.as_slice().iter().any(|lane| lane.drops.len() > 0)
 }

@@ -5,6 +5,7 @@ ghost use Rattle.steer_base.specs.Counters.{number};
 ghost use Rattle.steer_base.specs.declared.put.Put.TheVariants.{At as at_position};
 ghost use Rattle.history.specs.Counted.{rank_of};
 ghost use Rattle.history.specs.Finding.{first_some};
+ghost use Rattle.history.specs.InOrder.{begun_of};
 ghost use Rattle.history.specs.Known.{pulled_lane};
 ghost use Rattle.history.specs.Lines.{accepted_place, drop_in, inbox_place_of};
 ghost use Rattle.history.specs.Lines.{packet_line as line_of_packet, reply_line as line_of_reply};
@@ -17,6 +18,7 @@ ghost use Rattle.history.specs.Slots.{AreSlots, index_before};
 use crate::arrival::Arrival;
 use crate::history::History;
 use crate::lane_list::LaneList;
+use crate::lines::begun::Begun;
 use crate::lines::slots::Slots;
 use crate::packet_line::{PacketLine, Via};
 use crate::place::Place;
@@ -59,34 +61,58 @@ pub(crate) fn packet_line(
     }
 }
 
-// The line of the reply to a packet, where one was begun: replies are in the order of the inbox.
-pub(crate) fn reply_line(
+// What the lists say of the reply to a packet, if one was begun: they are in the inbox's order.
+pub(crate) fn begun_reply(
     h: &History,
     slots: &Slots,
     packets: &[Packet],
     apps: u8,
     id: PacketId,
-) -> Option<ReplyLine>
+) -> Option<Begun>
     requires regular { Regular packets.now apps h.now }
     requires slots { AreSlots h.now slots.now }
     requires apps { 1 ≤ apps }
     requires arrived { id < length h.now.arrivals }
-    ensures { result ≡ line_of_reply packets.now apps h.now id }
+    ensures { result ≡ option_map begun_of (line_of_reply packets.now apps h.now id) }
 {
     let packet = &packets[id.0 as usize];
-    let app = app_of(packet.hash, apps);
+    let app = app_of(packet.hash, apps).0 as usize;
     let index = index_of(slots.inboxes.get(id))?;
-    let sent = sent_at(&h.sent, app.0 as usize, index)?;
-    Some(ReplyLine {
-        id,
-        app,
+    let sent = sent_at(&h.sent, app, index)?;
+    Some(Begun {
         rxq: sent.rxq,
         cpu: sent.cpu,
-        choice: choice_at(&h.tx_choices, app.0 as usize, index),
+        choice: choice_at(&h.tx_choices, app, index),
+    })
+}
+
+// The line of the reply to a packet, of which the lists say this.
+pub(crate) fn reply_line(
+    h: &History,
+    slots: &Slots,
+    packets: &[Packet],
+    apps: u8,
+    begun: Begun,
+    id: PacketId,
+) -> ReplyLine
+    requires regular { Regular packets.now apps h.now }
+    requires slots { AreSlots h.now slots.now }
+    requires apps { 1 ≤ apps }
+    requires arrived { id < length h.now.arrivals }
+    requires begun { option_map begun_of (line_of_reply packets.now apps h.now id) ≡ Some begun }
+    ensures { line_of_reply packets.now apps h.now id ≡ Some result }
+{
+    let packet = &packets[id.0 as usize];
+    ReplyLine {
+        id,
+        app: app_of(packet.hash, apps),
+        rxq: begun.rxq,
+        cpu: begun.cpu,
+        choice: begun.choice,
         put: position_of(h.start, slots.tx_accepted.get(id)),
         port: slots.port.get(id),
         flow_number: packet.flow_number,
-    })
+    }
 }
 
 // The index of a place, which is counted from 1.

@@ -1,18 +1,13 @@
 //! The places of each packet in the lists of a history.
-ghost use Rattle.std.specs.Prelude.{ℕ, ◌≡◌, ◌<◌, ◌^◌, IfOk, None, length, nat_lt, slice_index_or};
-ghost use Rattle.std.specs.List.{list_any};
-ghost use Rattle.history.specs.Finding.{first_some};
+ghost use Rattle.std.specs.Prelude.{IfOk};
 ghost use Rattle.history.specs.Known.{HasShortLists};
-ghost use Rattle.history.specs.Lines.{drop_in};
-ghost use Rattle.history.specs.Lists.{lane_at};
 ghost use Rattle.history.specs.Slots.{AreSlots};
 
 use crate::history::History;
-use crate::known::index::{Index, index_accepted, index_drops, index_list, index_places};
+use crate::known::index::{Index, index_accepted, index_list, index_places, some_drops};
 use crate::known::places::Places;
-use crate::lane_list::LaneList;
 use std::alloc::Global;
-use steer_base::{List, OutOfMemory, Put};
+use steer_base::{OutOfMemory, Put};
 
 /// One slot for each packet that arrived, for each kind of list that other lists do not lead to.
 /// Places are counted from 1, and of several the first is kept.
@@ -45,28 +40,4 @@ impl Slots {
             port: index_list(alloc, count, &h.port)?,
         })
     }
-}
-
-// The drop of each packet, with its number. It takes no memory where no lane dropped a packet.
-fn some_drops(
-    alloc: Global,
-    count: usize,
-    lanes: &List<LaneList>,
-) -> Result<Index<Put>, OutOfMemory>
-    requires { (c : ℕ) → length (lane_at lanes.now c).drops < 2 ^ 32 }
-    ensures { IfOk result (λ i. (x : ℕ) → x < count
-        → slice_index_or i x None ≡ first_some (drop_in x) lanes.now) }
-{
-    if has_drops(lanes) {
-        index_drops(alloc, count, lanes)
-    } else {
-        Index::empty(alloc, 0)
-    }
-}
-
-// Whether a lane dropped a packet.
-fn has_drops(lanes: &List<LaneList>) -> bool
-    ensures { result ≡ list_any (λ lane. nat_lt 0 (length lane.drops)) lanes.now }
-{
-    lanes.as_slice().iter().any(|lane| lane.drops.len() > 0)
 }

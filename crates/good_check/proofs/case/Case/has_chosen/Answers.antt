@@ -1,10 +1,10 @@
-use Rattle.std.proofs.Common.{◌∙◌, None, ap, arith, get_or, length}
+use Rattle.std.proofs.Common.{ap, arith, length}
 use Rattle.std.proofs.lemmas.List.{length-map}
 use Rattle.steer_base.specs.Counters.{rounded_up}
 use Rattle.steer_model.specs.State.Setup.{packet_hash}
 use Rattle.std.specs.Prelude.{slice_index}
 use Rattle.good_check.proofs.ChoicesLemmas.{is-class, rows-are}
-use Rattle.good_check.proofs.PositionsLemmas.{by-lane, position-known}
+use Rattle.good_check.proofs.PositionsLemmas.{position-known}
 use Rattle.good_check.proofs.case.Case.has_chosen.Goals as goal
 
 pub invariant_of-poller : goal.invariant_of-poller
@@ -30,13 +30,9 @@ invariant_of-poller c =
         ap (λ s. length s.counts) case.is_initial,
         length-map queues (λ queue. rounded_up queue.flows),
       );
-      are_known = λ d.
-          let known = case.known.now in
-          by-lane case.h.now.start (get_or c.args.lanes.now d.id None)
-          (get_or known.choices d.id None) (get_or known.accepted d.id None) d.choice.lane
-          (c.requires.lanes d.id)
-          ∙ position-known case.given.now.packets (length case.plan.now.apps) case.h.now
-          c.requires.plain.regular known case.is_known d;
+      are_known =
+          position-known case.given.now.packets (length case.plan.now.apps) case.h.now
+          c.requires.plain.regular case.known.now case.is_known;
     }
 
 pub are_by_rule-requires : goal.are_by_rule-requires

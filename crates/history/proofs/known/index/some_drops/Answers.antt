@@ -1,6 +1,6 @@
 use Rattle.std.proofs.Common.{◌∙◌, sym}
 use Rattle.history.proofs.NoDropLemmas.{no-slots}
-use Rattle.history.proofs.lines.slots.some_drops.Goals as goal
+use Rattle.history.proofs.known.index.some_drops.Goals as goal
 
 pub returns-else-has_drops : goal.returns-else-has_drops
 returns-else-has_drops c =

@@ -2,14 +2,14 @@ use Rattle.std.proofs.Common.{◌≡◌, Some, sym, ◌∙◌, ap, get_or}
 use Rattle.std.specs.Prelude.{slice_get}
 use Rattle.std.specs.Option.{option_and_then, option_map}
 use Rattle.steer_base.specs.Apps.{app_of}
-use Rattle.steer_base.specs.Counters.{number}
 use Rattle.steer_base.specs.declared.packet.Packet.{Packet}
+use Rattle.history.specs.InOrder.{begun_of}
 use Rattle.history.specs.Lines.{first_reply_to, line_of_sent, tx_choice_of}
 use Rattle.history.specs.Lists.{app_at, list_at}
 use Rattle.history.specs.Slots.{index_before}
 use Rattle.history.proofs.RegularLemmas.{packet-at}
 use Rattle.history.proofs.SlotLemmas.{no-reply, reply-from, tx_choice-at}
-use Rattle.history.proofs.lines.making.reply_line.Goals as goal
+use Rattle.history.proofs.lines.making.begun_reply.Goals as goal
 
 pub returns-in_err-index : goal.returns-in_err-index
 returns-in_err-index c =
@@ -20,7 +20,8 @@ returns-in_err-index c =
     let index = c.index_of.ensures ∙ ap (option_and_then index_before) inbox in
     let none = no-reply packets c.args.apps h c.requires.regular x
     (sym index ∙ c.in_err-index.was) in
-    c.from_residual.ensures ∙ sym (ap (option_map (line_of_sent packets c.args.apps h x)) none)
+    c.from_residual.ensures
+    ∙ sym (ap (λ o. option_map begun_of (option_map (line_of_sent packets c.args.apps h x) o)) none)
 
 pub returns-in_err-sent : goal.returns-in_err-sent
 returns-in_err-sent c =
@@ -35,13 +36,13 @@ returns-in_err-sent c =
     c.requires.arrived
     (c.index-packets-id.is
     ∙ ap (λ i. get_or packets i c.index-packets-id.result) c.id.view_is) in
-    let app = c.app.view_is ∙ c.app_of-app.ensures.value
+    let app = c.app.view_is ∙ c.app_of.ensures.value
     ∙ ap (λ (p : Packet). app_of p.hash apps) packet in
     let reply = reply-from packets apps h c.requires.regular x r (sym index ∙ c.in_ok-index.was) in
     let none = reply ∙ sym (ap (λ a. slice_get (list_at h.sent a) r) app) ∙ sym c.sent_at.ensures
     ∙ c.in_err-sent.was in
     c.from_residual-in_err-sent.ensures
-    ∙ sym (ap (option_map (line_of_sent packets apps h x)) none)
+    ∙ sym (ap (λ o. option_map begun_of (option_map (line_of_sent packets apps h x) o)) none)
 
 pub returns : goal.returns
 returns c =
@@ -58,7 +59,7 @@ returns c =
     let packet = packet-at packets apps h c.requires.regular x c.index-packets-id.result here
     (c.index-packets-id.is
     ∙ ap (λ i. get_or packets i c.index-packets-id.result) c.id.view_is) in
-    let app : c.app_of-app.result ≡ app_at packets apps x = c.app_of-app.ensures.value
+    let app : c.app_of.result ≡ app_at packets apps x = c.app_of.ensures.value
     ∙ ap (λ (p : Packet). app_of p.hash apps) packet in
     let reply : first_reply_to h x ≡ Some c.in_ok-sent.sent =
     reply-from packets apps h c.requires.regular x r is
@@ -68,17 +69,9 @@ returns c =
     ∙ ap (λ a. option_map (λ d. d.choice) (slice_get (list_at h.tx_choices a) r))
     (c.app.view_is ∙ app)
     ∙ sym (tx_choice-at packets apps h c.requires.regular x r is) in
-    let put = c.position_of.ensures
-    ∙ ap (option_map (number h.start)) (c.get-2.ensures ∙ slots.tx_accepted.slot x here) in
-    let port = c.get-3.ensures ∙ slots.port.slot x here in
     (λ w. Some (record {
-      id = x;
-      app = app w;
       rxq = c.in_ok-sent.sent.rxq;
       cpu = c.in_ok-sent.sent.cpu;
       choice = choice w;
-      put = put w;
-      port = port w;
-      flow_number = ap (λ (p : Packet). p.flow_number) packet w;
     }))
-    ∙ sym (ap (option_map (line_of_sent packets apps h x)) reply)
+    ∙ sym (ap (λ o. option_map begun_of (option_map (line_of_sent packets apps h x) o)) reply)

@@ -1,0 +1,10 @@
+use Rattle.std.proofs.Common.{take}
+use Rattle.std.specs.Option.{option_map}
+use Rattle.history.specs.Finding.{first_some, found}
+use Rattle.history.specs.Index.{IsIndex}
+use Rattle.history.proofs.known.index.index_senders.Given as goal
+
+abbrev pub invariant-loop-list : goal.invariant-loop-list
+invariant-loop-list l = IsIndex l.count l.index (λ x. first_some
+    (λ list. option_map (λ s. s.cpu) (found (λ s. s.id) x list))
+    (take l.list-index l.lists))
