@@ -12,7 +12,7 @@ use crate::commands::command_line;
 use crate::line::LineBuf;
 use crate::packets::{packet_line, reply_line};
 use crate::sums::{cpu_line, queue_line, tap_line, tx_line, write_line};
-use history::{Commanded, LaneList, Lines, ReplyLine, SockWrite};
+use history::{Commanded, LaneList, Lines, ReplyLine, ReplyLines, SockWrite};
 use outside_io::{Sink, WriteFault, write_whole};
 use steer_base::{List, PacketId};
 use taps::TapText;
@@ -66,8 +66,9 @@ pub(crate) fn write_replies<K: Sink>(
         (Stopped (K.written out.old) (K.written out.new) (K.faults out.old) (K.faults out.new)
         (text_of (reply_rows lines.now.replies))) }
 {
+    let mut replies = ReplyLines::of(lines);
     for id in 0..arrived {
-        write_reply(lines.reply(PacketId(id)), buf, out)?;
+        write_reply(replies.line(PacketId(id)), buf, out)?;
     }
     Ok(())
 }
