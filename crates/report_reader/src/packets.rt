@@ -20,12 +20,12 @@ pub struct SeenPacket {
     pub queue: RxQueue,
     /// What led to this queue.
     pub via: Via,
+    /// Its application.
+    pub app: AppId,
     /// The choice of a processor, if there was one.
     pub choice: Option<Choice>,
     /// The result of the put, if there was one.
     pub put: Option<Put>,
-    /// Its application.
-    pub app: AppId,
     /// Its place in the application's inbox, from 1, if it is there.
     pub inbox: Option<u32>,
 }

@@ -1,6 +1,6 @@
 //! Lists of packets that are filled by their places.
-ghost use Rattle.std.specs.Prelude.{ℕ, ◌≡◌, ◌≤◌, ◌<◌, ◌-◌, ◌+◌, List, Some, IfOk, length};
-ghost use Rattle.std.specs.Prelude.{map, slice_index_or, slice_set};
+ghost use Rattle.std.specs.Prelude.{ℕ, ◌≡◌, ◌≤◌, ◌<◌, ◌-◌, ◌+◌, ◌∷◌, List, Some, IfOk, length};
+ghost use Rattle.std.specs.Prelude.{drop, map, slice_index_or, slice_set};
 ghost use Rattle.steer_base.specs.declared.limits.TheConstants.{MAX_PACKETS};
 ghost use Rattle.history.specs.Lists.{list_at};
 ghost use Rattle.report_reader.specs.Slots.{IsShelved, one_at, place_for, slot_of};
@@ -30,6 +30,22 @@ fn count_one(counts: &mut Vec<u32>, slot: Option<Slot>)
     }
 }
 
+// Where a packet stands among the lists of a kind. Of its two rows only the one that says so is
+// looked at.
+fn slot_at(seen: &SeenList, x: usize, kind: Kind, start: u32) -> Option<Slot>
+    requires { x < length seen.now }
+    ensures { map (slot_of start kind) (drop x seen.now)
+        ≡ result ∷ map (slot_of start kind) (drop (x + 1) seen.now) }
+{
+    match kind {
+        Kind::Accepted => slot_of_kind(&seen.at(x), Kind::Accepted, start),
+        Kind::Dropped => slot_of_kind(&seen.at(x), Kind::Dropped, start),
+        Kind::Inbox => slot_of_kind(&seen.at(x), Kind::Inbox, start),
+        Kind::Shipped => slot_of_kind(&seen.at(x), Kind::Shipped, start),
+        Kind::Port => slot_of_kind(&seen.at(x), Kind::Port, start),
+    }
+}
+
 // Where each packet stands among the lists of a kind.
 fn slots(
     alloc: Global,
@@ -41,7 +57,7 @@ fn slots(
 {
     let mut slots = Vec::with_capacity(alloc, seen.len())?;
     for x in 0..seen.len() {
-        slots.push(slot_of_kind(&seen.at(x), kind, start))?;
+        slots.push(slot_at(seen, x, kind, start))?;
     }
     Ok(slots)
 }
