@@ -17,8 +17,8 @@ none-left [] (suc i) l = refl
 none-left (a ∷ ways) zero l = absurd (omega (arith, l))
 none-left (a ∷ ways) (suc i) l = none-left ways i (omega (arith, l))
 
--- behind the last arrival there are no more choices
-pub nothing-left : (f : Arrival → Option Chosen) (ways : List Arrival) (i : ℕ) (built : List Chosen)
+-- behind the last one nothing more is picked
+pub nothing-left : {A B : Type 0} (f : A → Option B) (ways : List A) (i : ℕ) (built : List B)
     → length ways ≤ i → built ++ filter_map f (drop i ways) ≡ filter_map f ways
     → built ≡ filter_map f ways
 nothing-left f ways i built l e =

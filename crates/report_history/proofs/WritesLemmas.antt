@@ -3,6 +3,7 @@ use Rattle.std.proofs.Common.{ℕ, zero, suc, ◌+◌, ◌<◌, ◌≡◌, ◌�
 use Rattle.std.proofs.Common.{map, length, refl, ap, ◌∙◌, sym, arith, ap₂, append-nil}
 use Rattle.std.specs.List.{cons_option, filter_map, range_with_len}
 use Rattle.std.proofs.lemmas.Bool.{eq-eqb, ne_eqb}
+use Rattle.std.proofs.lemmas.List.{ext_get_or}
 use Rattle.std.proofs.lemmas.List.FromFn.{get_or-map-range_with_len, length-map-range_with_len}
 use Rattle.history.specs.Lists.{list_at}
 use Rattle.history.specs.declared.sock_write.SockWrite.{SockWrite}
@@ -75,3 +76,17 @@ writes-shown apps lists e =
     let n : a ≡ 0 + a = omega arith in
     get_or-map-range_with_len f 0 apps a a [] k (omega arith)
     ∙ ap (λ b. filter_map (own_write b) (writes_from 0 lists)) n ∙ app-writes 0 a lists)
+
+-- the lists are the writes of each application, if each is that of its own
+pub lists-are : (writes : List AppWrite) (apps : ℕ) (built : List (List SockWrite))
+    → length built ≡ apps
+    → ((a : ℕ) → a < apps → list_at built a ≡ filter_map (own_write a) writes)
+    → built ≡ map (λ a. filter_map (own_write a) writes) (range_with_len 0 apps)
+lists-are writes apps built long each =
+    ext_get_or [] built (map own (range_with_len 0 apps))
+    (long ∙ sym (length-map-range_with_len own 0 apps)) (λ a l.
+    let n : a < apps = omega (arith, l, long) in
+    each a n ∙ sym (get_or-map-range_with_len own 0 apps a a [] n (omega arith)))
+  where
+    own : ℕ → List SockWrite
+    own a = filter_map (own_write a) writes

@@ -60,22 +60,22 @@ fn queue_choice(seen: &SeenList, queue: usize, arrival: Arrival) -> Option<Chose
     })
 }
 
-// Adds a choice to the list of a queue.
-fn add(
+// Adds an item to one of some lists.
+pub(crate) fn add<T: Copy>(
     alloc: Global,
-    lists: &mut Vec<List<Chosen>>,
+    lists: &mut Vec<List<T>>,
     at: usize,
-    chosen: Chosen,
+    item: T,
 ) -> Result<(), OutOfMemory>
     requires { at < length lists.old.items }
     ensures long { OnOk result (length lists.new.items ≡ length lists.old.items) }
     ensures own { OnOk result (list_at lists.new.items at
-        ≡ list_at lists.old.items at ++ chosen ∷ []) }
+        ≡ list_at lists.old.items at ++ item ∷ []) }
     ensures others { OnOk result ((q : ℕ) → q ≢ at
         → list_at lists.new.items q ≡ list_at lists.old.items q) }
 {
     let mut own = mem::replace(&mut lists[at], List::from_vec(Vec::new(alloc))).into_vec();
-    own.push(chosen)?;
+    own.push(item)?;
     lists[at] = List::from_vec(own);
     Ok(())
 }

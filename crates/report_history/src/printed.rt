@@ -6,7 +6,7 @@ ghost use Rattle.report_history.specs.Printed.{IsBuilt, IsOnlyHistory};
 use crate::arrivals::arrivals;
 use crate::choices::choices;
 use crate::lanes::{backlogs, inboxes, tx_queues};
-use crate::replies::{all_replies, tx_choices};
+use crate::replies::{Replied, all_replies};
 use crate::writes::all_writes;
 use history::{History, lines_fit};
 use report_reader::shelf::shelf;
@@ -65,8 +65,7 @@ fn built(
     let arrivals = arrivals(alloc, seen)?;
     let choices = choices(alloc, seen, &arrivals, parts.taken.len())?;
     let inboxes = inboxes(alloc, seen, apps, start)?;
-    let sent = all_replies(alloc, seen, &inboxes)?;
-    let tx_choices = tx_choices(alloc, seen, packets, &sent)?;
+    let Replied { sent, tx_choices } = all_replies(alloc, seen, packets, &inboxes)?;
     let lanes = backlogs(alloc, seen, &parts.cpus, start)?;
     let tx_lanes = tx_queues(alloc, seen, &parts.txs, start)?;
     Ok(Printed {

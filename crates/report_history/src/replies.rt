@@ -1,7 +1,8 @@
 //! The replies of the applications and their transmit queue choices.
-ghost use Rattle.std.specs.Prelude.{◌≡◌, IfOk, map};
-ghost use Rattle.std.specs.List.{filter_map};
+ghost use Rattle.std.specs.Prelude.{◌≡◌, IfOk, List as Items, map};
+ghost use Rattle.std.specs.List.{cons_option, filter_map};
 ghost use Rattle.history.specs.Lists.{packet_at};
+ghost use Rattle.history.specs.declared.sent.Sent.{Sent as ASent};
 ghost use Rattle.report_history.specs.Shown.{shown_sent, shown_tx_choice, with_class};
 
 use crate::lookup::{shown_reply, shown_sent};
@@ -43,67 +44,86 @@ fn shown_tx_choice(seen: &SeenList, packets: &[Packet], sent: Sent) -> Option<Ch
     })
 }
 
-// The replies to these packets, as far as they were begun.
-fn replies(alloc: Global, seen: &SeenList, ids: &[PacketId]) -> Result<Vec<Sent>, OutOfMemory>
-    ensures { IfOk result (λ v. v.items ≡ filter_map (shown_sent seen.now) ids.now) }
+// The transmit queue choice for the reply to a packet, if the reply was begun and chosen for.
+fn choice_for(seen: &SeenList, packets: &[Packet], id: PacketId) -> Option<Chosen>
+    ensures { (more : Items ASent) → filter_map (shown_tx_choice seen.now packets.now)
+        (cons_option (shown_sent seen.now id) more)
+        ≡ cons_option result (filter_map (shown_tx_choice seen.now packets.now) more) }
+{
+    match shown_sent(seen, id) {
+        Some(sent) => shown_tx_choice(seen, packets, sent),
+        None => None,
+    }
+}
+
+// The replies of one application, and their transmit queue choices.
+#[derive(Drop)]
+struct OwnReplies {
+    sent: Vec<Sent>,
+    choices: Vec<Chosen>,
+}
+
+// The replies to these packets, as far as they were begun, and their transmit queue choices: both
+// are on the line of the reply.
+fn own_replies(
+    alloc: Global,
+    seen: &SeenList,
+    packets: &[Packet],
+    ids: &[PacketId],
+) -> Result<OwnReplies, OutOfMemory>
+    ensures sent { IfOk result
+        (λ own. own.sent.items ≡ filter_map (shown_sent seen.now) ids.now) }
+    ensures choices { IfOk result (λ own. own.choices.items
+        ≡ filter_map (shown_tx_choice seen.now packets.now)
+        (filter_map (shown_sent seen.now) ids.now)) }
 {
     let mut replies = Vec::with_capacity(alloc, ids.len())?;
+    let mut choices = Vec::with_capacity(alloc, ids.len())?;
     for id in ids {
         if let Some(sent) = shown_sent(seen, *id) {
             replies.push(sent)?;
         }
-    }
-    Ok(replies)
-}
-
-// The transmit queue choices for these replies.
-fn chosen(
-    alloc: Global,
-    seen: &SeenList,
-    packets: &[Packet],
-    replies: &[Sent],
-) -> Result<Vec<Chosen>, OutOfMemory>
-    ensures { IfOk result (λ v. v.items ≡ filter_map (shown_tx_choice seen.now packets.now)
-        replies.now) }
-{
-    let mut chosen = Vec::with_capacity(alloc, replies.len())?;
-    for sent in replies {
-        if let Some(choice) = shown_tx_choice(seen, packets, *sent) {
-            chosen.push(choice)?;
+        if let Some(choice) = choice_for(seen, packets, *id) {
+            choices.push(choice)?;
         }
     }
-    Ok(chosen)
+    Ok(OwnReplies {
+        sent: replies,
+        choices,
+    })
 }
 
-/// The replies of each application, by its inbox.
+/// The replies of each application, and their transmit queue choices.
+#[derive(Drop)]
+pub struct Replied {
+    /// The replies, by the inboxes.
+    pub sent: Vec<List<Sent>>,
+    /// Their transmit queue choices.
+    pub tx_choices: Vec<List<Chosen>>,
+}
+
+/// The replies of each application, by its inbox, and their transmit queue choices.
 pub fn all_replies(
     alloc: Global,
     seen: &SeenList,
-    inboxes: &[List<PacketId>],
-) -> Result<Vec<List<Sent>>, OutOfMemory>
-    ensures { IfOk result
-        (λ v. v.items ≡ map (filter_map (shown_sent seen.now)) inboxes.now) }
-{
-    let mut lists = Vec::with_capacity(alloc, inboxes.len())?;
-    for inbox in inboxes {
-        lists.push(List::from_vec(replies(alloc, seen, inbox.as_slice())?))?;
-    }
-    Ok(lists)
-}
-
-/// The transmit queue choices of each application, by its replies.
-pub fn tx_choices(
-    alloc: Global,
-    seen: &SeenList,
     packets: &[Packet],
-    sent: &[List<Sent>],
-) -> Result<Vec<List<Chosen>>, OutOfMemory>
-    ensures { IfOk result
-        (λ v. v.items ≡ map (filter_map (shown_tx_choice seen.now packets.now)) sent.now) }
+    inboxes: &[List<PacketId>],
+) -> Result<Replied, OutOfMemory>
+    ensures sent { IfOk result
+        (λ r. r.sent.items ≡ map (filter_map (shown_sent seen.now)) inboxes.now) }
+    ensures tx_choices { IfOk result (λ r. r.tx_choices.items
+        ≡ map (λ ids. filter_map (shown_tx_choice seen.now packets.now)
+        (filter_map (shown_sent seen.now) ids)) inboxes.now) }
 {
-    let mut lists = Vec::with_capacity(alloc, sent.len())?;
-    for replies in sent {
-        lists.push(List::from_vec(chosen(alloc, seen, packets, replies.as_slice())?))?;
+    let mut all_sent = Vec::with_capacity(alloc, inboxes.len())?;
+    let mut all_choices = Vec::with_capacity(alloc, inboxes.len())?;
+    for inbox in inboxes {
+        let OwnReplies { sent, choices } = own_replies(alloc, seen, packets, inbox.as_slice())?;
+        all_sent.push(List::from_vec(sent))?;
+        all_choices.push(List::from_vec(choices))?;
     }
-    Ok(lists)
+    Ok(Replied {
+        sent: all_sent,
+        tx_choices: all_choices,
+    })
 }
