@@ -1,3 +1,2 @@
 pub mod VerdictLemmas
-pub mod NoCommandLemmas
 pub mod ReplayLemmas

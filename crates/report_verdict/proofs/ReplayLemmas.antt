@@ -38,7 +38,7 @@ use Rattle.report_verdict.specs.Replays.{ReplaysAreJudged, SweptReplaysAreGood}
 use Rattle.report_verdict.specs.Replays.{SweptReplaysAreJudged, UnrecordedReplaysAreGood}
 use Rattle.report_verdict.specs.Verdicts.{IsReportFor, commands_in}
 use Rattle.report_verdict.specs.declared.verdict.Verdict.TheVariants as verdict
-use Rattle.report_verdict.proofs.NoCommandLemmas.{choices_alone, replies_alone, wants_alone}
+use Rattle.steer_model.proofs.Good.NoCommand.{by_rule_alone, replies_alone, wants_alone}
 use Rattle.report_verdict.proofs.VerdictLemmas.{same_history}
 
 -- ---- the history of a replay of a plan without commands
@@ -128,7 +128,7 @@ rest_clause i h plan none g n writes =
       queues = λ _. g.queues;
       choices = λ _. record {
         all = g.choices.all;
-        by_rule = choices_alone i h g.at none g.choices.by_rule;
+        by_rule = by_rule_alone i h g.at none g.choices.by_rule;
       };
       wants = λ _. wants_alone i h g.at none g.wants;
       heads = λ _. g.heads;

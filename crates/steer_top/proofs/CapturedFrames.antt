@@ -1,7 +1,6 @@
 -- The packets of a capture's records are those of its frames.
-use Rattle.std.proofs.Common.{◌≡◌, ℕ, ◌+◌, ◌-◌, All, Bool, false, List, [], ◌∷◌, ◌++◌, Ok, map}
-use Rattle.std.proofs.Common.{drop, take}
-use Rattle.std.proofs.Common.{◌∙◌, ap, append-nil, append_assoc, arith, inl, inr, refl, subst, sym}
+use Rattle.std.proofs.Common.{ℕ, All, Bool, false, List, [], ◌∷◌, ◌++◌, Ok, map}
+use Rattle.std.proofs.Common.{append-nil, append_assoc, inl, inr, subst, sym}
 use Rattle.pcap_reader.proofs.Rows.{within_result}
 use Rattle.pcap_reader.specs.Captures.{FrameIsWithin, frame_of}
 use Rattle.pcap_reader.specs.declared.capture.Capture.{Capture}
@@ -12,8 +11,8 @@ use Rattle.pcapng_reader.specs.Captures.{section_behind}
 use Rattle.pcapng_reader.specs.declared.block.Block.{Block}
 use Rattle.pcapng_reader.specs.declared.place.Place.{Place}
 use Rattle.pcapng_reader.specs.declared.section.Section.{Section}
-use Rattle.steer_model.proofs.Capture.RecordLemmas.{packets-of-records}
-use Rattle.steer_model.specs.Capture.Packets.{ArePackets, ArePacketsOfFrames, frame_of as frame_at}
+use Rattle.steer_model.proofs.Capture.RecordLemmas.{packets-of-frames}
+use Rattle.steer_model.specs.Capture.Packets.{ArePackets, ArePacketsOfFrames}
 use Rattle.steer_base.specs.declared.packet.Packet.{Packet}
 use Rattle.steer_top.specs.Captures.{HasAnyCapture}
 
@@ -39,22 +38,10 @@ frames-within bytes capture (inl has) =
     has.read)
 frames-within bytes capture (inr (other, has)) = within_result bytes (Ok capture) has
 
--- the frame of a record, from its first byte to its last
-same_frames : (bytes : List ℕ) (records : List PcapRecord)
-    → map (frame_of bytes) records ≡ map (frame_at bytes) records
-same_frames bytes [] = refl
-same_frames bytes (r ∷ rs) =
-    let size : r.len ≡ (r.start + r.len) - r.start = omega arith in
-    ap (λ n. take n (drop r.start bytes) ∷ map (frame_of bytes) rs) size
-    ∙ ap (λ l. frame_at bytes r ∷ l) (same_frames bytes rs)
-
 -- the packets of a capture's frames are those of the capture
 pub packets-captured : (key kinds : ℕ) (bytes : List ℕ) (capture : Capture)
     (packets : List Packet) → HasAnyCapture bytes capture
     → ArePacketsOfFrames key kinds (map (frame_of bytes) capture.records) packets
     → ArePackets key kinds bytes capture.records packets
 packets-captured key kinds bytes capture packets has are =
-    packets-of-records key kinds bytes capture.records packets
-    (subst (λ frames. ArePacketsOfFrames key kinds frames packets)
-    (same_frames bytes capture.records) are)
-    (frames-within bytes capture has)
+    packets-of-frames key kinds bytes capture.records packets are (frames-within bytes capture has)

@@ -2,8 +2,7 @@
 ghost use Rattle.std.specs.Prelude.{◌≡◌, ◌<◌, ◌^◌, [], ◌∷◌, ◌++◌, length, get_or, IfOk, OnOk};
 ghost use Rattle.std.specs.Prelude.{OnErr};
 ghost use Rattle.steer_base.specs.declared.flow.Flow.TheVariants.{Bare};
-ghost use Rattle.steer_top.specs.FlowLists.{IsEntryOf, IsPairOf, IsWithin, flow_of_entry};
-ghost use Rattle.steer_top.specs.FlowLists.{pair_at};
+ghost use Rattle.steer_top.specs.FlowLists.{IsEntryOf, IsPairOf, IsWithin, flow_of_entry, pair_at};
 
 use std::alloc::Global;
 use std::marker::Model;

@@ -8,16 +8,15 @@ ghost use Rattle.steer_top.specs.Commands.{check_words_of, gen_words_of, hash_wo
 ghost use Rattle.steer_top.specs.Commands.{place_words_of, plan_words_of, words_of};
 ghost use Rattle.steer_top.specs.Words.CommandWords.{Run};
 ghost use Rattle.steer_top.specs.Words.{command_of, gen_with as gen_words, live_command_of};
-ghost use Rattle.steer_top.specs.Words.{still_command_of};
-ghost use Rattle.steer_top.specs.Words.{hash_with as hash_words};
+ghost use Rattle.steer_top.specs.Words.{still_command_of, hash_with as hash_words};
 ghost use Rattle.steer_top.specs.Words.{check_arguments as the_check_arguments};
 ghost use Rattle.steer_top.specs.Words.{gen_arguments as the_gen_arguments};
 ghost use Rattle.steer_top.specs.Words.{hash_arguments as the_hash_arguments};
 ghost use Rattle.steer_top.specs.Words.{place_arguments as the_place_arguments};
 ghost use Rattle.steer_top.specs.Words.{plan_arguments as the_plan_arguments};
 ghost use Rattle.steer_top.specs.Words.{still_command_named as the_still_command_named};
-ghost use Rattle.steer_top.specs.Words.{is_name as names_a_file};
-ghost use Rattle.steer_top.specs.Words.{word_number, number_within as the_number_within};
+ghost use Rattle.steer_top.specs.Words.{is_name as names_a_file, word_number};
+ghost use Rattle.steer_top.specs.Words.{number_within as the_number_within};
 
 use crate::command::{
     CheckCommand, GenCommand, HashCommand, PlaceCommand, PlanCommand, StillCommand,

@@ -1,13 +1,13 @@
 -- The packets of a capture's records are those of the records' frames.
 use Rattle.std.proofs.Common.{ℕ, suc, ◌+◌, ◌-◌, ◌<◌, ◌≡◌, List, [], ◌∷◌, ◌++◌, Some, length, map}
-use Rattle.std.proofs.Common.{take, All, get_or, slice_get, ap, ◌∙◌, sym, subst, arith}
+use Rattle.std.proofs.Common.{take, drop, All, get_or, slice_get, ap, ◌∙◌, refl, sym, subst, arith}
 use Rattle.std.proofs.Common.{length-drop}
 use Rattle.std.proofs.Math.Seq.{take-suc, take-length}
 use Rattle.std.proofs.lemmas.List.{get_or-map, length-map, length-take-le, map-append}
 use Rattle.std.proofs.lemmas.List.Elements.{All-get_or}
 use Rattle.std.proofs.lemmas.Option.{same_Some, slice_get-get_or, slice_get_within}
 use Rattle.history.specs.Lists.{packet_at}
-use Rattle.pcap_reader.specs.Captures.{FrameIsWithin}
+use Rattle.pcap_reader.specs.Captures.{FrameIsWithin, frame_of as frame_from}
 use Rattle.pcap_reader.specs.declared.record.PcapRecord.{PcapRecord}
 use Rattle.steer_base.specs.declared.packet.Packet.{Packet}
 use Rattle.steer_model.specs.Capture.Packets.{ArePackets, ArePacketsOfFrames, IsOfFrame}
@@ -73,3 +73,23 @@ packets-of-records key kinds bytes records packets are within =
           hash = of.hash;
           len = of.len ∙ frame-length bytes from here;
         }
+
+-- the frame of a record, from its first byte to its last
+same_frames : (bytes : List ℕ) (records : List PcapRecord)
+    → map (frame_from bytes) records ≡ map (frame_of bytes) records
+same_frames bytes [] = refl
+same_frames bytes (r ∷ rs) =
+    let size : r.len ≡ (r.start + r.len) - r.start = omega arith in
+    ap (λ n. take n (drop r.start bytes) ∷ map (frame_from bytes) rs) size
+    ∙ ap (λ l. frame_of bytes r ∷ l) (same_frames bytes rs)
+
+-- the packets of the frames of records are those of the records
+pub packets-of-frames : (key kinds : ℕ) (bytes : List ℕ) (records : List PcapRecord)
+    (packets : List Packet)
+    → ArePacketsOfFrames key kinds (map (frame_from bytes) records) packets
+    → All (FrameIsWithin bytes) records
+    → ArePackets key kinds bytes records packets
+packets-of-frames key kinds bytes records packets are within =
+    packets-of-records key kinds bytes records packets
+    (subst (λ frames. ArePacketsOfFrames key kinds frames packets) (same_frames bytes records) are)
+    within

@@ -7,7 +7,7 @@ use Rattle.history.specs.declared.history.History.{History}
 use Rattle.hop_model.specs.Hop.{chosen_at}
 use Rattle.steer_base.specs.Choices.{class_of}
 use Rattle.steer_model.specs.Good.GoodHistory.{Good, Clause, never}
-use Rattle.steer_model.specs.Good.Choices.{ChoicesAreByRule, IsByRule, WantsAreWritten}
+use Rattle.steer_model.specs.Good.Choices.{AreByRule, ChoicesAreByRule, IsByRule, WantsAreWritten}
 use Rattle.steer_model.specs.Good.Replies.{IsReplyByRule, RepliesAreByRule}
 use Rattle.steer_model.specs.Good.Inputs.{Input, Prefixes, settings_after, settings_at, setup_in}
 use Rattle.steer_model.specs.Good.Inputs.{since_at}
@@ -39,26 +39,27 @@ settings_is i h none n =
 no_prefixes : (many count : ℕ) → Prefixes many count (λ k. 0)
 no_prefixes many count = record { within = λ k lt. omega arith; grow = λ k lt. omega arith }
 
+pub by_rule_alone : (i : Input) (h : History) (at : ℕ → ℕ → ℕ) → h.commands ≡ []
+    → AreByRule i h at → AreByRule i h never
+by_rule_alone i h at none g =
+    record {
+      prefixes = λ q. no_prefixes _ _;
+      each = λ q k lt. (
+          let a : settings_at i h (at q k) ≡ settings_at i h 0 = settings_is i h none (at q k)
+          ∙ sym (settings_is i h none 0) in
+          let b : since_at h.commands q (at q) k ≡ since_at h.commands q (never q) k =
+          since_is h none q (at q) k ∙ sym (since_is h none q (never q) k) in
+          subst (λ n. IsByRule i h q k (settings_at i h 0) n) b
+          (subst (λ s. IsByRule i h q k s (since_at h.commands q (at q) k)) a (g.each q k lt)));
+    }
+
 choices_alone : (i : Input) (h : History) (at : ℕ → ℕ → ℕ) → h.commands ≡ []
     → ChoicesAreByRule i h at → ChoicesAreByRule i h never
 choices_alone i h at none g =
-    record {
-      all = g.all;
-      by_rule = record {
-        prefixes = λ q. no_prefixes _ _;
-        each = λ q k lt. (
-            let a : settings_at i h (at q k) ≡ settings_at i h 0 = settings_is i h none (at q k)
-            ∙ sym (settings_is i h none 0) in
-            let b : since_at h.commands q (at q) k ≡ since_at h.commands q (never q) k =
-            since_is h none q (at q) k ∙ sym (since_is h none q (never q) k) in
-            subst (λ n. IsByRule i h q k (settings_at i h 0) n) b
-            (subst (λ s. IsByRule i h q k s (since_at h.commands q (at q) k)) a
-            (g.by_rule.each q k lt)));
-      };
-    }
+    record { all = g.all; by_rule = by_rule_alone i h at none g.by_rule }
 
-wants_alone : (i : Input) (h : History) (at : ℕ → ℕ → ℕ) → h.commands ≡ [] → WantsAreWritten i h at
-    → WantsAreWritten i h never
+pub wants_alone : (i : Input) (h : History) (at : ℕ → ℕ → ℕ) → h.commands ≡ []
+    → WantsAreWritten i h at → WantsAreWritten i h never
 wants_alone i h at none g q k want lt is =
     let w = g q k want lt is in
     let e : settings_at i h (at q k) ≡ settings_at i h 0 = settings_is i h none (at q k)
@@ -69,7 +70,7 @@ wants_alone i h at none g q k want lt is =
       w.2,
     )
 
-replies_alone : (i : Input) (h : History) (at : ℕ → ℕ → ℕ) → h.commands ≡ []
+pub replies_alone : (i : Input) (h : History) (at : ℕ → ℕ → ℕ) → h.commands ≡ []
     → RepliesAreByRule i h at → RepliesAreByRule i h never
 replies_alone i h at none g =
     record {
