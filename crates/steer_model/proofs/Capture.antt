@@ -1,4 +1,5 @@
 pub mod HashLemmas
+pub mod ShortNumberLemmas
 pub mod FlowNumberLemmas
 pub mod PacketLemmas
 pub mod RecordLemmas

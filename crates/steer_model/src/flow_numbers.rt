@@ -1,8 +1,9 @@
 //! The flows that were seen, with their numbers.
 ghost use Rattle.std.specs.Prelude.{◌<◌, ◌^◌, IfOk};
-ghost use Rattle.steer_model.specs.Capture.NumberMaps.{IsNumberAt};
 
-use crate::flow_key::{FlowKey, LongKey, ShortKey};
+use crate::flow_key::{FlowKey, LongKey};
+use crate::number_maps::number_at;
+use crate::short_numbers::ShortNumbers;
 use std::alloc::Global;
 use std::collections::BTreeMap;
 use steer_base::{Flow, OutOfMemory};
@@ -11,7 +12,7 @@ use steer_base::{Flow, OutOfMemory};
 /// without IPv6 addresses have a map of their own, whose keys are short.
 #[derive(Drop)]
 pub struct FlowNumbers {
-    short: BTreeMap<ShortKey, u32>,
+    short: ShortNumbers,
     long: BTreeMap<LongKey, u32>,
 }
 
@@ -22,11 +23,11 @@ impl FlowNumbers {
 
     /// No flows.
     pub fn new(alloc: Global) -> FlowNumbers
-        ensures short { result.short.entries ≡ [] }
+        ensures short { result.short.by_key.entries ≡ [] }
         ensures long { result.long.entries ≡ [] }
     {
         FlowNumbers {
-            short: BTreeMap::new(alloc),
+            short: ShortNumbers::new(alloc),
             long: BTreeMap::new(alloc),
         }
     }
@@ -39,25 +40,8 @@ impl FlowNumbers {
     {
         let next = (self.short.len() + self.long.len()) as u32;
         match FlowKey::of(flow) {
-            FlowKey::Short(key) => number_at(&mut self.short, key, next),
+            FlowKey::Short(key) => self.short.number_of(key, next),
             FlowKey::Long(key) => number_at(&mut self.long, key, next),
         }
-    }
-}
-
-// The number at a key: the one that it has, else the next one.
-fn number_at<K: Ord + Drop>(
-    numbers: &mut BTreeMap<K, u32>,
-    key: K,
-    next: u32,
-) -> Result<u32, OutOfMemory>
-    ensures { IfOk result (λ number. IsNumberAt K.cmp numbers.old numbers.new key next number) }
-{
-    if let Some(number) = numbers.get(&key) {
-        return Ok(*number);
-    }
-    match numbers.insert(key, next) {
-        Ok(_) => Ok(next),
-        Err(_) => Err(OutOfMemory),
     }
 }

@@ -7,12 +7,15 @@ mod flow_counts;
 mod flow_hashes;
 mod flow_key;
 mod flow_numbers;
+mod guesses;
 mod hop_answers;
 mod laws;
 mod note;
+mod number_maps;
 mod packet_list;
 mod settings;
 mod setup;
+mod short_numbers;
 mod steered;
 mod turns;
 

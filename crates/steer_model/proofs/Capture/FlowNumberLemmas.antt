@@ -11,9 +11,10 @@ use Rattle.steer_base.specs.declared.flow.Flow.{Flow}
 use Rattle.steer_base.specs.declared.packet.Packet.{Packet}
 use Rattle.steer_model.specs.Capture.FlowKeys.{FlowFits, key_of}
 use Rattle.steer_model.specs.Capture.FlowNumbers.{IsFresh, IsNumberOf, flow_total, long_order}
-use Rattle.steer_model.specs.Capture.FlowNumbers.{number_at, number_in, short_order}
+use Rattle.steer_model.specs.Capture.FlowNumbers.{number_at, number_in}
 use Rattle.steer_model.specs.Capture.PacketLists.{HasNumbers}
 use Rattle.steer_model.specs.Capture.Packets.{AreNumbered}
+use Rattle.steer_model.specs.Capture.ShortNumbers.{short_order}
 use Rattle.steer_model.specs.declared.flow_key.FlowKey.{FlowKey}
 use Rattle.steer_model.specs.declared.flow_key.FlowKey.TheVariants.{Short, Long}
 use Rattle.steer_model.specs.declared.flow_numbers.FlowNumbers.{FlowNumbers}
@@ -295,8 +296,8 @@ fresh-step old new packets x more l fits h fresh =
         ]
 
 -- no packets, and empty maps
-pub has-none : (numbers : FlowNumbers) → numbers.short.entries ≡ [] → numbers.long.entries ≡ []
-    → HasNumbers numbers []
+pub has-none : (numbers : FlowNumbers) → numbers.short.by_key.entries ≡ []
+    → numbers.long.entries ≡ [] → HasNumbers numbers []
 has-none numbers short long =
     let many : flow_total numbers ≡ 0 = omega (arith, ap length short, ap length long) in
     record {

@@ -4,17 +4,12 @@ use Rattle.std.specs.BTreeMap.{btree_map_len, get}
 use Rattle.std.specs.declared.cmp.Ordering.{Ordering}
 use Rattle.steer_base.specs.declared.flow.Flow.{Flow}
 use Rattle.steer_model.specs.Capture.FlowKeys.{FlowFits, key_of}
+use Rattle.steer_model.specs.Capture.ShortNumbers.{short_order}
 use Rattle.steer_model.specs.contracts.flow_key.LongKeyOrd.TheImpl as long_ord
-use Rattle.steer_model.specs.contracts.flow_key.ShortKeyOrd.TheImpl as short_ord
 use Rattle.steer_model.specs.declared.flow_key.FlowKey.{FlowKey}
 use Rattle.steer_model.specs.declared.flow_key.FlowKey.TheVariants.{Short, Long}
 use Rattle.steer_model.specs.declared.flow_key.LongKey.{LongKey}
-use Rattle.steer_model.specs.declared.flow_key.ShortKey.{ShortKey}
 use Rattle.steer_model.specs.declared.flow_numbers.FlowNumbers.{FlowNumbers}
-
--- the order in which a map keeps short keys
-abbrev pub short_order : ShortKey → ShortKey → Ordering
-short_order = (short_ord.ghosts).cmp
 
 -- the order in which a map keeps long keys
 abbrev pub long_order : LongKey → LongKey → Ordering
@@ -22,7 +17,7 @@ long_order = (long_ord.ghosts).cmp
 
 -- the number at a key, if it has one
 abbrev pub number_at : FlowNumbers → FlowKey → Option ℕ
-number_at numbers (Short key) = get short_order numbers.short key
+number_at numbers (Short key) = get short_order numbers.short.by_key key
 number_at numbers (Long key) = get long_order numbers.long key
 
 -- the number of a flow, if it has one
@@ -31,7 +26,7 @@ number_in numbers flow = number_at numbers (key_of flow)
 
 -- how many flows have a number
 abbrev pub flow_total : FlowNumbers → ℕ
-flow_total numbers = btree_map_len numbers.short + btree_map_len numbers.long
+flow_total numbers = btree_map_len numbers.short.by_key + btree_map_len numbers.long
 
 -- A flow that is known keeps its number.
 pub record KeepsItsNumber (old new : FlowNumbers) (flow : Flow) (number : ℕ) : Type 0 where
