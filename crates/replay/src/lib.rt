@@ -11,7 +11,6 @@ mod summary;
 
 pub use counts::Counts;
 pub use laws::{every_report_has_the_headline, every_run_has_the_headline};
-pub use packets::packets_by;
 pub use shown::Shown;
 pub use steps::play;
 pub use summary::Summary;

@@ -8,11 +8,10 @@ ghost use Rattle.replay.specs.Summaries.{after_drops, counts_line, input_line, u
 ghost use Rattle.steer_base.specs.declared.limits.TheConstants.{MAX_PACKETS};
 
 use crate::counts::Counts;
-use crate::packets::packets_by;
+use crate::packets::generated_packets;
 use crate::steps::{play, tell_countable};
-use cap_gen::{Generated, generate};
+use cap_gen::{a_generated_capture_has_its_frames, generate_plan};
 use outside_io::{Sink, WriteFault};
-use pcap_reader::read_capture;
 use plan_reader::read_plan;
 use report::LineBuf;
 use std::alloc::Global;
@@ -35,32 +34,23 @@ pub struct Summary {
 impl Summary {
     ghost use Rattle.replay.specs.Summaries.{IsSummaryOf, summary_text};
 
-    /// Generates a plan and a capture of `packets` packets over at most `flows` flows, and makes
-    /// all steps of the plan over them.
+    /// Generates a plan and the frames of a capture of `packets` packets over at most `flows`
+    /// flows, and makes all steps of the plan over these packets. The capture is not made.
     pub fn make(alloc: Global, seed: u64, packets: u32, flows: u32) -> Result<Summary, OutOfMemory>
         requires few_packets { packets ≤ MAX_PACKETS }
         requires some_flow { 1 ≤ flows }
         requires few_flows { flows ≤ MAX_FLOWS }
         ensures { IfOk result (IsSummaryOf seed packets flows) }
     {
-        let Generated {
-            capture: bytes,
-            plan: text,
-        } = generate(alloc, seed, packets, flows)?;
-        // What is generated has a plan and a capture, so only memory can run out.
+        a_generated_capture_has_its_frames();
+        let text = generate_plan(alloc, seed, packets)?;
+        // What is generated is a plan, so only memory can run out.
         let Ok(plan) = read_plan(alloc, &text) else {
             return Err(OutOfMemory);
         };
-        let Ok(capture) = read_capture(alloc, &bytes) else {
-            return Err(OutOfMemory);
-        };
-        let list = packets_by(alloc, &plan, &capture, &bytes)?;
-        let cut = capture.cut;
-        // The file is given up before the machine takes its memory.
-        drop(capture);
-        drop(bytes);
-        let history = play(alloc, &plan, &list, cut)?;
-        tell_countable(&plan, &list, cut);
+        let list = generated_packets(alloc, &plan, seed, packets, flows)?;
+        let history = play(alloc, &plan, &list, None)?;
+        tell_countable(&plan, &list, None);
         Ok(Summary {
             seed,
             packets,
