@@ -3,7 +3,7 @@ use crate::equal::{same, same_items};
 use std::test::Fail;
 use steer_base::{
     AppId, Cpu, CpuMask, Journal, Journals, List, RxQueue, Why, app_of, decimal_number,
-    even_entries, place_of_hash, reached, round_up,
+    even_entries, place_of_hash, reached, remainder, round_up,
 };
 
 #[test]
@@ -118,6 +118,19 @@ fn a_hash_has_a_place(rt: HostRuntime) {
             size as usize,
         );
     }
+}
+
+#[test]
+fn divisions_leave_a_remainder(rt: HostRuntime) {
+    same(&rt, &remainder(0x51cc_c178, 128), &120, 0);
+    same(&rt, &remainder(4_294_967_295, 10), &5, 1);
+    same(
+        &rt,
+        &remainder(4_294_967_295, 2_147_483_648),
+        &2_147_483_647,
+        2,
+    );
+    same(&rt, &remainder(7, 1), &0, 3);
 }
 
 #[test]

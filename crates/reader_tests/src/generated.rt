@@ -1,13 +1,18 @@
 //! Captures and plans worked out by hand.
-ghost use Rattle.std.specs.Prelude.{◌≤◌};
+ghost use Rattle.std.specs.Prelude.{◌≤◌, ⊤};
 ghost use Rattle.steer_base.specs.declared.limits.TheConstants.{MAX_PACKETS};
 
 use crate::pieces::{HEADER, same, same_items};
-use cap_gen::{Generated, a_frame_is_of_its_flow, generate};
+use cap_gen::{
+    Generated, a_frame_is_of_its_flow, a_generated_capture_has_its_frames, generate,
+    generate_frames, generate_plan,
+};
+use pcap_reader::FrameSink;
 use plan_reader::{Steps, read_plan};
 use std::alloc::Global;
 use std::process::Abort;
 use std::test::Fail;
+use steer_base::OutOfMemory;
 
 /// The record of second 0 with the frame of flow 0.
 const FIRST_RECORD: [u8; 70] = [
@@ -63,14 +68,38 @@ fn has_ends(rt: &impl Abort, capture: &[u8], frame: usize, source: [u8; 4], port
     same_items(rt, &capture[frame + 34..frame + 36], &port.to_be_bytes());
 }
 
+/// The bytes of the frames that were taken.
+#[derive(Drop)]
+struct Joined {
+    bytes: Vec<u8>,
+}
+
+impl FrameSink for Joined {
+    ghost takes = { λ first frames now. ⊤ };
+
+    fn take(&mut self, frame: &[u8]) -> Result<(), OutOfMemory> {
+        self.bytes.extend_from_slice(frame)?;
+        Ok(())
+    }
+}
+
 #[test]
 fn sources_of_a_seed(rt: HostRuntime) -> Result<(), Fail> {
     a_frame_is_of_its_flow();
+    a_generated_capture_has_its_frames();
     let made = generate(rt.alloc(), 42, 3, 65_536)?;
     same(&rt, &made.capture.len(), &234, 0);
     has_ends(&rt, &made.capture, 40, [10, 0, 2, 183], 1719);
     has_ends(&rt, &made.capture, 110, [10, 0, 244, 9], 30_729);
     has_ends(&rt, &made.capture, 180, [10, 0, 51, 48], 14_128);
+    let mut frames = Joined {
+        bytes: Vec::new(rt.alloc()),
+    };
+    generate_frames(42, 3, 65_536, &mut frames)?;
+    same(&rt, &frames.bytes.len(), &162, 1);
+    has_ends(&rt, &frames.bytes, 0, [10, 0, 2, 183], 1719);
+    has_ends(&rt, &frames.bytes, 54, [10, 0, 244, 9], 30_729);
+    has_ends(&rt, &frames.bytes, 108, [10, 0, 51, 48], 14_128);
     Ok(())
 }
 
@@ -78,7 +107,7 @@ fn sources_of_a_seed(rt: HostRuntime) -> Result<(), Fail> {
 fn steps_of(alloc: Global, packets: u32) -> Result<u32, Fail>
     requires { packets ≤ MAX_PACKETS }
 {
-    let Generated { plan, .. } = generate(alloc, 9, packets, 512)?;
+    let plan = generate_plan(alloc, 9, packets)?;
     match read_plan(alloc, &plan)
         .map_err(|_| Fail::new("a fault"))?
         .steps

@@ -1,7 +1,7 @@
 //! The lines of a packet and of its reply.
 use crate::equal::same;
 use crate::histories::{PLAIN, classed, lines_of, replied, segments};
-use history::{Lines, PacketLine, Place, ReplyLine, Via};
+use history::{Lines, PacketLine, Place, ReplyLine, ReplyLines, Via};
 use std::alloc::Global;
 use std::process::Abort;
 use steer_base::{AppId, Cpu, PacketId, Put, RxQueue, Why};
@@ -15,8 +15,14 @@ fn has_packet(rt: &impl Abort, lines: &Lines, line: PacketLine) {
 
 // The one reply has this line.
 fn has_reply(rt: &impl Abort, lines: &Lines, reply: ReplyLine) {
-    same(rt, &lines.reply(PacketId(0)), &Some(reply), 2);
+    let wanted = Some(reply);
+    same(rt, &lines.reply(PacketId(0)), &wanted, 2);
     same(rt, &lines.reply(PacketId(1)), &None, 3);
+    let mut in_order = ReplyLines::of(&*lines);
+    let first = in_order.line(PacketId(0));
+    let second = in_order.line(PacketId(1));
+    same(rt, &first, &wanted, 4);
+    same(rt, &second, &None, 5);
 }
 
 // The lines of a packet that was delivered, and whose reply was sent, where the counters begin at

@@ -34,20 +34,9 @@ const SMALL: [(&[&str], &[u8]); 3] = [
 #[test]
 fn small_input_is_replayed(rt: HostRuntime) -> Result<(), Fail> {
     for (case, &(texts, text)) in SMALL.iter().enumerate() {
-        is_generated(&rt, rt.alloc(), texts, text, case)?;
+        let got = called_over(rt.alloc(), texts, &[], &[])?;
+        comes_to(&rt, &got, 0, text, b"", case);
     }
-    Ok(())
-}
-
-fn is_generated(
-    rt: &impl Abort,
-    alloc: Global,
-    texts: &[&str],
-    text: &[u8],
-    case: usize,
-) -> Result<(), Fail> {
-    let got = called_over(alloc, texts, &[], &[])?;
-    comes_to(rt, &got, 0, text, b"", case);
     Ok(())
 }
 

@@ -103,16 +103,11 @@ const HASHED: [Hashed; 11] = [
 ];
 
 fn are_hashed(rt: &impl Abort, alloc: Global, cases: &[Hashed<'_>]) -> Result<(), Fail> {
-    for (i, case) in cases.iter().enumerate() {
-        is_hashed(rt, alloc, *case, i)?;
+    for (i, &(texts, pieces, text)) in cases.iter().enumerate() {
+        let capture = joined(alloc, pieces)?;
+        capture_comes_to(rt, alloc, texts, &capture, (0, text, b""), i)?;
     }
     Ok(())
-}
-
-fn is_hashed(rt: &impl Abort, alloc: Global, case: Hashed<'_>, number: usize) -> Result<(), Fail> {
-    let (texts, pieces, text) = case;
-    let capture = joined(alloc, pieces)?;
-    capture_comes_to(rt, alloc, texts, &capture, (0, text, b""), number)
 }
 
 #[test]

@@ -94,22 +94,10 @@ const FAULTS: [(usize, u8, &[u8]); 8] = [
 #[test]
 fn faults_of_pcapng_captures_are_named(rt: HostRuntime) -> Result<(), Fail> {
     for (case, &(place, byte, line)) in FAULTS.iter().enumerate() {
-        fault_is_named(&rt, rt.alloc(), place, byte, line, case)?;
+        let bytes = with(rt.alloc(), place, byte)?;
+        let got = hashed(rt.alloc(), &bytes)?;
+        comes_to(&rt, &got, 4, b"", line, case);
     }
-    Ok(())
-}
-
-fn fault_is_named(
-    rt: &impl Abort,
-    alloc: Global,
-    place: usize,
-    byte: u8,
-    line: &[u8],
-    case: usize,
-) -> Result<(), Fail> {
-    let bytes = with(alloc, place, byte)?;
-    let got = hashed(alloc, &bytes)?;
-    comes_to(rt, &got, 4, b"", line, case);
     Ok(())
 }
 

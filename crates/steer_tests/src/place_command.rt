@@ -88,15 +88,10 @@ fn comes_to_text(
     Ok(())
 }
 
-fn is_placed(rt: &impl Abort, alloc: Global, case: Placed<'_>, number: usize) -> Result<(), Fail> {
-    let (rules, pieces, text) = case;
-    let capture = joined(alloc, pieces)?;
-    comes_to_text(rt, alloc, rules, &capture, text, number)
-}
-
 fn are_placed(rt: &impl Abort, alloc: Global, cases: &[Placed<'_>]) -> Result<(), Fail> {
-    for (i, case) in cases.iter().enumerate() {
-        is_placed(rt, alloc, *case, i)?;
+    for (i, &(rules, pieces, text)) in cases.iter().enumerate() {
+        let capture = joined(alloc, pieces)?;
+        comes_to_text(rt, alloc, rules, &capture, text, i)?;
     }
     Ok(())
 }
@@ -149,24 +144,13 @@ const FAULTS: [(&[u8], &[u8]); 7] = [
     ),
 ];
 
+// The capture is missing each time: the rules are refused before it is asked for.
 #[test]
 fn what_is_no_rules_is_named(rt: HostRuntime) -> Result<(), Fail> {
     for (case, &(rules, line)) in FAULTS.iter().enumerate() {
-        are_no_rules(&rt, rt.alloc(), rules, line, case)?;
+        let got = called_over(rt.alloc(), &PLACE, &[("r.json", rules)], &[])?;
+        comes_to(&rt, &got, 3, b"", line, case);
     }
-    Ok(())
-}
-
-// The capture is missing each time: the rules are refused before it is asked for.
-fn are_no_rules(
-    rt: &impl Abort,
-    alloc: Global,
-    rules: &[u8],
-    line: &[u8],
-    case: usize,
-) -> Result<(), Fail> {
-    let got = called_over(alloc, &PLACE, &[("r.json", rules)], &[])?;
-    comes_to(rt, &got, 3, b"", line, case);
     Ok(())
 }
 
