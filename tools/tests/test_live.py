@@ -19,6 +19,7 @@ EVENTS = 600
 LIMITS = (8, 12, 20)            # of netdev_max_backlog
 FIGURES = []
 TOGETHER = 40       # frames that are under way at once
+TRIES = 3           # of a test that other programs may disturb
 
 
 def setUpModule():
@@ -47,18 +48,19 @@ def tearDownModule():
 def of_the_machine(test):
     """A test that sets the machine; skipped where the settings cannot be had, or do not stay.
 
-    Since other programs of the machine may disturb it, it is tried again where it fails; the draws
-    are the same then.
+    Since other programs of the machine may disturb it, it is tried again where it fails, up to
+    three times in all; the draws are the same then.
     """
     @functools.wraps(test)
     def guarded(self):
         figures = len(FIGURES)
         try:
-            try:
-                test(self)
-            except AssertionError as fault:
-                FIGURES[figures:] = ["%s was tried again: %s" % (test.__name__, fault)]
-                test(self)
+            for _ in range(TRIES - 1):
+                try:
+                    return test(self)
+                except AssertionError as fault:
+                    FIGURES[figures:] = ["%s was tried again: %s" % (test.__name__, fault)]
+            test(self)
         except (pair.Changed, pair.Unsettable) as fault:
             self.skipTest("a setting of the whole machine: %s" % fault)
     return guarded
