@@ -90,6 +90,7 @@ impl Tables {
 
     /// Chooses the lane of a producer's packet, and records the choice in its table. `retired` has
     /// the count of each lane's head.
+    #[inline(always)]
     pub fn choose(
         &mut self,
         retired: &[u32],
@@ -123,6 +124,7 @@ impl Tables {
     }
 
     /// Records the position of a packet that was put, if it was accepted.
+    #[inline(always)]
     pub fn note(&mut self, p: u8, class: Option<u32>, went: Put)
         requires table { p < length self.old.rows }
         requires class { IsClassOf (table_at self.old p) class }
@@ -152,6 +154,7 @@ impl Tables {
     }
 
     // The entry of a class in a producer's table.
+    #[inline(always)]
     fn entry(&self, p: u8, class: u32) -> Entry
         requires table { p < length self.now.rows }
         requires class { class < length (table_at self.now p).rows }
@@ -167,6 +170,7 @@ impl Tables {
 
     // Replaces the entry of a class in a producer's table: the shared one, unless another producer
     // has it.
+    #[inline(always)]
     fn write(&mut self, p: u8, class: u32, entry: Entry)
         requires table { p < length self.old.rows }
         requires class { class < length (table_at self.old p).rows }

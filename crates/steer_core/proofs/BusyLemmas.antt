@@ -1,11 +1,10 @@
 -- The actors that are not busy are at rest, through each turn of a round.
-use Rattle.std.proofs.Common.{ℕ, ◌<◌, ◌≤◌, ◌≡◌, ◌≢◌, Bool, true, false, not, List, [], ◌∷◌, Option}
+use Rattle.std.proofs.Common.{ℕ, ◌<◌, ◌≤◌, ◌≡◌, ◌≢◌, Bool, true, false, not, List, [], Option}
 use Rattle.std.proofs.Common.{Some, None, length, refl, ap, ◌∙◌, sym, subst, arith, inl, inr}
 use Rattle.std.specs.Prelude.{◌&&◌, ◌||◌, ◌==◌, nat_lt, slice_index, slice_index_or}
 use Rattle.std.proofs.lemmas.Bool.{cases_eq, eq-eqb, lt-ltb, ne_eqb}
 use Rattle.steer_base.specs.Sets.{has}
 use Rattle.steer_base.specs.declared.cpu_mask.CpuMask.{CpuMask}
-use Rattle.steer_base.specs.declared.step.Step.{Step}
 use Rattle.steer_base.specs.declared.step.Step.TheVariants as act
 use Rattle.hop_model.specs.Events.{IsEmptied}
 use Rattle.hop_model.specs.Hop.{Bare, HopState, accepted_at, arrivals_of, inside_of}
@@ -13,59 +12,16 @@ use Rattle.hop_model.specs.Hop.{out_at, placed_of, retired_at}
 use Rattle.history.specs.declared.sent.Sent.{Sent}
 use Rattle.steer_model.specs.State.Machine.{Machine}
 use Rattle.steer_model.specs.State.Setup.{Setup}
-use Rattle.steer_model.specs.Steps.CompoundSteps.{Progress, drain, poll, serve, ship, tries}
+use Rattle.steer_model.specs.Steps.CompoundSteps.{Progress, drain, poll, serve, ship}
 use Rattle.steer_model.specs.Steps.Pollers.{arrive}
-use Rattle.steer_model.specs.Steps.SingleSteps.{is_idle, is_work, simple}
-use Rattle.steer_invariant.specs.StepInvariant.{StepInvariant}
 use Rattle.steer_core.specs.Resting.{AreMarked, OthersAreDone, PollerIsDone, SameCpu, SameSender}
 use Rattle.steer_core.specs.Resting.{SameTx, SenderIsDone, next_queue}
 use Rattle.steer_core.specs.declared.actors.busy.Busy.{Busy}
-use Rattle.steer_core.proofs.IdleTurns.{idle-poll-is-done}
 use Rattle.steer_core.proofs.SameLanes.{Steady, Upstream, poll-up, steady}
 use Rattle.steer_core.proofs.SamePollers.{SamePoller, same-arrive, same-drain, same-poll}
 use Rattle.steer_core.proofs.SamePollers.{same-serve, same-ship, stays-done}
 use Rattle.steer_core.proofs.SameReplies.{Drained, Served, Shipped, drained, served, serve-beside}
 use Rattle.steer_core.proofs.SameReplies.{shipped}
-
--- ---- whether work was done before a turn does not change the turn
-
-or-again : (a b c : Bool) → ((a || b) || c) ≡ (a || (b || c))
-or-again true b c = refl
-or-again false b c = refl
-
-tries-apart : (ss : List Step) (m : Machine) (w v : Bool)
-    → tries (m, w || v) ss ≡ ((tries (m, v) ss).0, w || (tries (m, v) ss).1)
-tries-apart [] m w v = refl
-tries-apart (s ∷ ss) m w v =
-    let n : Machine = (simple m s).0 in
-    let b : Bool = is_work s && not (is_idle (simple m s).1) in
-    ap (λ (x : Bool). tries (n, x) ss) (or-again w v b) ∙ tries-apart ss n w (v || b)
-
-or-false : (w : Bool) → (w || false) ≡ w
-or-false true = refl
-or-false false = refl
-
-or-true : (w : Bool) → (w || true) ≡ true
-or-true true = refl
-or-true false = refl
-
-module _ (m n : Machine) (q : ℕ) (w did : Bool)
-    (turn : ◌≡◌ {A = Progress} (n, did) (poll q (m, false))) where
-  apart : ◌≡◌ {A = Progress} (n, w || did) (poll q (m, w))
-  apart =
-      ap (λ (t : Progress). (t.0, w || t.1)) turn
-      ∙ sym (tries-apart
-      (act.Enter q ∷ act.Take q ∷ act.Look q ∷ act.Weigh q ∷ act.Put q ∷ act.Ask q ∷ act.Leave q
-      ∷ []) m w false)
-      ∙ ap (λ (x : Bool). poll q (m, x)) (or-false w)
-
-  pub poll-worked : did ≡ true → ◌≡◌ {A = Progress} (n, true) (poll q (m, w))
-  poll-worked is =
-      ap (λ (x : Bool). (n, x)) (sym (ap (λ (x : Bool). w || x) is ∙ or-true w)) ∙ apart
-
-  pub poll-idled : did ≡ false → ◌≡◌ {A = Progress} (n, w) (poll q (m, w))
-  poll-idled is =
-      ap (λ (x : Bool). (n, x)) (sym (ap (λ (x : Bool). w || x) is ∙ or-false w)) ∙ apart
 
 -- ---- actors that stay at rest
 
@@ -203,20 +159,20 @@ module _ (m n : Machine) (busy : Busy) (to : n ≡ (arrive m).0) (setup : n.setu
       stays-done q m n (arrived q other)
       (others.pollers q lt' (or-left (has busy.pollers q) _ none))))
 
--- ---- the turn of a busy poller
+-- ---- the turn of a poller
 
-module _ (m n : Machine) (q : ℕ) (did : Bool) (busy : Busy) (cpus : CpuMask)
-    (turn : ◌≡◌ {A = Progress} (n, did) (poll q (m, false))) (setup : n.setup ≡ m.setup)
+module _ (m n : Machine) (q : ℕ) (w x : Bool) (busy : Busy) (cpus : CpuMask)
+    (turn : ◌≡◌ {A = Progress} (n, x) (poll q (m, w))) (setup : n.setup ≡ m.setup)
     (marked : AreMarked m.setup.cpus busy.cpus cpus (λ c. SameCpu c m n))
     (others : OthersAreDone busy m) where
   polled : Upstream m n
-  polled = at (λ (o : Machine). Upstream m o) n did _ turn (poll-up q (m, false))
+  polled = at (λ (o : Machine). Upstream m o) n x _ turn (poll-up q (m, w))
 
   other-done : (p : ℕ) → p ≢ q → p < length n.setup.homes → has busy.pollers p ≡ false
       → PollerIsDone p n
   other-done p other lt free =
       stays-done p m n
-      (at (λ (o : Machine). SamePoller p m o) n did _ turn (same-poll p q (m, false) other))
+      (at (λ (o : Machine). SamePoller p m o) n x _ turn (same-poll p q (m, w) other))
       (others.pollers p (here (λ (s : Setup). p < length s.homes) m n setup lt) free)
 
   beyond : (pollers : CpuMask)
@@ -236,26 +192,21 @@ module _ (m n : Machine) (q : ℕ) (did : Bool) (busy : Busy) (cpus : CpuMask)
             (others.txs x (here (λ (p : Setup). x < p.txs) m n setup lt) free);
       }
 
-  -- it did work, and stays busy
-  pub done-after-work : has busy.pollers q ≡ true → OthersAreDone (record busy { cpus = cpus }) n
-  done-after-work is =
+  -- it stays busy
+  pub busy-after-poll : has busy.pollers q ≡ true → OthersAreDone (record busy { cpus = cpus }) n
+  busy-after-poll is =
       beyond busy.pollers (λ p lt free.
       other-done p (λ e. absurd (
-      let f : has busy.pollers p ≡ true = ap (λ x. has busy.pollers x) e ∙ is in
+      let f : has busy.pollers p ≡ true = ap (λ y. has busy.pollers y) e ∙ is in
       let g : true ≡ false = sym f ∙ free in cc)) lt free)
 
-  -- it did none, and is busy no longer
-  pub done-after-none : (rest : CpuMask) → StepInvariant m → q < length m.setup.homes
-      → did ≡ false → ((x : ℕ) → has rest x ≡ (has busy.pollers x && not (q == x)))
+  -- it is done, and busy no longer
+  pub done-after-poll : (rest : CpuMask) → PollerIsDone q n
+      → ((y : ℕ) → has rest y ≡ (has busy.pollers y && not (q == y)))
       → OthersAreDone (record busy { pollers = rest; cpus = cpus }) n
-  done-after-none rest k in' none is =
+  done-after-poll rest done is =
       beyond rest (λ p lt free. elim (cases_eq p q) [
-        | inl e ↦ (
-            let idle : (poll q (m, false)).1 ≡ false =
-            sym (ap (λ (t : Progress). t.1) turn) ∙ none in
-            subst (λ x. PollerIsDone x n) (sym e)
-            (at (λ (o : Machine). PollerIsDone q o) n did _ turn
-            (idle-poll-is-done m q k in' idle)))
+        | inl e ↦ subst (λ y. PollerIsDone y n) (sym e) done
         | inr other ↦ other-done p other lt (left-out busy.pollers rest q p is other free)
       ])
 

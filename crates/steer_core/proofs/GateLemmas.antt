@@ -32,9 +32,3 @@ leaves s a in' out' free =
     let back = visits-back s.visits a out' in
     let same : (s.bare.inside + 1) - 1 ≡ s.bare.inside = omega arith in
     rw (here, free, back, same) refl
-
--- who leaves is outside
-pub is_outside : (s : HopState) (a : ℕ) → a < length s.visits → inside_of s a ≡ true
-    → nat_lt (placed_of s a) (length (choices_of s a)) ≡ false
-    → inside_of (happens s (event.Leave a)).0 a ≡ false
-is_outside s a in' here free = rw (here, free) (get_or-set_same s.visits a false false in')

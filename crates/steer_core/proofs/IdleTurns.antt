@@ -1,19 +1,14 @@
--- The turn of a poller or an application at rest changes nothing, and one without work leaves it at
--- rest.
+-- The turn of a poller or an application at rest changes nothing.
 use Rattle.std.proofs.Common.{ℕ, ◌<◌, ◌≤◌, ◌≡◌, Bool, true, false, List, [], ◌∷◌, None, Option}
-use Rattle.std.proofs.Common.{length, refl, ap, ◌∙◌, sym, subst, arith, inl, inr, suc, zero}
+use Rattle.std.proofs.Common.{length, refl, ap, ◌∙◌, subst, arith, inl, inr, suc, zero}
 use Rattle.std.proofs.lemmas.Bool.{cases_Bool, le-ltb, lt-ltb}
-use Rattle.std.proofs.lemmas.List.{get_or-set_same}
-use Rattle.std.specs.Prelude.{◌&&◌, ◌||◌, is_some, nat_lt, not, slice_get, slice_index}
-use Rattle.std.specs.Prelude.{slice_index_or}
+use Rattle.std.specs.Prelude.{◌&&◌, ◌||◌, is_some, nat_lt, not, slice_get}
 use Rattle.steer_base.specs.declared.step.Step.{Step}
 use Rattle.steer_base.specs.declared.step.Step.TheVariants as act
 use Rattle.hop_model.specs.declared.event.HopEvent.TheVariants as event
 use Rattle.hop_model.specs.Events.{happens}
 use Rattle.hop_model.specs.Hop.{HopState, arrivals_of, choices_of, inside_of, out_at, placed_of}
 use Rattle.hop_model.specs.Hop.{taken_of}
-use Rattle.hop_core.specs.Leaves.{Field}
-use Rattle.hop_core.proofs.Leaves.{each_leaves}
 use Rattle.steer_model.specs.State.Machine.{Machine, note_of}
 use Rattle.steer_model.specs.Steps.Applications.{next_in, sent_of}
 use Rattle.steer_model.specs.Steps.CompoundSteps.{Progress, poll, reply, replying, serve, tried}
@@ -26,11 +21,11 @@ use Rattle.steer_model.specs.declared.note.Note.TheVariants as note
 use Rattle.step_laws.proofs.ReasonLemmas.{idle_for_first_reason}
 use Rattle.steer_invariant.specs.StepInvariant.{StepInvariant}
 use Rattle.steer_invariant.proofs.StepInvariant.SingleStepLemmas.{goes-simple}
-use Rattle.steer_properties.proofs.Sweep.IdleTurnLemmas.{idle-leaves, idle-tries, tried-before}
-use Rattle.steer_properties.proofs.Sweep.RestLemmas.{poller-rests, staged}
+use Rattle.steer_properties.proofs.Sweep.IdleTurnLemmas.{idle-leaves}
+use Rattle.steer_properties.proofs.Sweep.RestLemmas.{staged}
 use Rattle.steer_properties.specs.Sweep.Rest.{PollerRests, SenderRests}
 use Rattle.steer_core.specs.Resting.{PollerIsDone, SenderIsDone}
-use Rattle.steer_core.proofs.GateLemmas.{enters, inside, is_inside, is_outside, leaves}
+use Rattle.steer_core.proofs.GateLemmas.{enters, inside, is_inside, leaves}
 
 -- ---- events that are idle
 
@@ -159,56 +154,6 @@ module _ (m : Machine) (q : ℕ) (k : StepInvariant m) (lt : q < length m.setup.
       ∙ ap (λ (t : Progress). tried t (act.Leave q))
       (tries-idle five n w (poller-idle n q kept-poller rests))
       ∙ tried-to n m w (act.Leave q) refl left-poller
-
--- a turn of a poller in which no work was done leaves it done
-pub idle-poll-is-done : (m : Machine) (q : ℕ) → StepInvariant m → q < length m.setup.homes
-    → (poll q (m, false)).1 ≡ false → PollerIsDone q (poll q (m, false)).0
-idle-poll-is-done m q k lt none =
-    let t : Progress = (m, false) in
-    let in' : Progress = tried t (act.Enter q) in
-    let five : List Step = act.Take q ∷ act.Look q ∷ act.Weigh q ∷ act.Put q ∷ act.Ask q ∷ [] in
-    let done : Progress = tries in' five in
-    let kept = (goes-simple m k (act.Enter q) (lt-ltb q (length m.setup.homes) lt)).kept in
-    let below : q < length m.rx.visits = (let v = k.rx.sizes.visits in omega (arith, lt, v)) in
-    let here = entered m.rx q k.rx.opened below in
-    let idle = idle-tries five in'
-    (refl, refl, (refl, refl, (refl, refl, (refl, refl, (refl, refl, tt)))))
-    (tried-before done (act.Leave q) none) in
-    let rests = poller-rests in'.0 q kept here idle.idle in
-    let within : q < length in'.0.rx.visits =
-    (let v = kept.rx.sizes.visits in let z = k.rx.sizes.visits in omega (arith, below, v, z)) in
-    subst (λ (n : Machine). PollerIsDone q (simple n (act.Leave q)).0) (sym idle.same)
-    (left-done in'.0 q kept within here rests)
-  where
-    -- an actor that comes by an open gate is inside
-    entered : (s : HopState) (a : ℕ) → s.bare.closed ≡ false → a < length s.visits
-        → inside_of (happens s (event.Enter a)).0 a ≡ true
-    entered s a open' in' =
-        elim (cases_Bool (inside_of s a)) [
-          | inl here ↦ rw here here
-          | inr out' ↦ rw (out', open') (get_or-set_same s.visits a true false in')
-        ]
-
-    left-done : (n : Machine) (q : ℕ) → StepInvariant n → q < length n.rx.visits
-        → inside_of n.rx q ≡ true → PollerRests q n → PollerIsDone q (simple n (act.Leave q)).0
-    left-done n q k in' here r =
-        let s : HopState = (happens n.rx (event.Leave q)).0 in
-        let free = (hands-same n q k r).2 in
-        let placed : placed_of s q ≡ placed_of n.rx q =
-        ap (λ (xs : List ℕ). slice_index xs q)
-        (each_leaves n.rx (event.Leave q) Field.placed refl) in
-        let arrived : arrivals_of s q ≡ arrivals_of n.rx q =
-        ap (λ (xs : List (List ℕ)). slice_index_or xs q [])
-        (each_leaves n.rx (event.Leave q) Field.arrivals refl) in
-        let done : PollerIsDone q (record n { rx = s }) =
-        record {
-          rests = record {
-            put = placed ∙ r.put ∙ ap (λ (xs : List ℕ). length xs) (sym arrived);
-            quiet = r.quiet;
-          };
-          outside = is_outside n.rx q in' here free;
-        } in
-        subst (λ (o : Machine). PollerIsDone q o) (sym (left-by n q here r.quiet)) done
 
 -- ---- applications
 

@@ -77,6 +77,7 @@ impl Hop {
     }
 
     /// A producer, inside, chooses the lane of the packet in hand by the migration rule.
+    #[inline(always)]
     pub fn weigh(
         &mut self,
         p: u8,
@@ -103,6 +104,7 @@ impl Hop {
     }
 
     /// A producer, inside, puts the packet in hand to the lane of its choice.
+    #[inline(always)]
     pub fn put(&mut self, p: u8, hash: Option<u32>) -> HopAnswer
         requires producer { p < length self.old.arrivals }
         ensures state { self.new ≡ (put self.old p hash).0 }

@@ -2,8 +2,8 @@
 ghost use Rattle.std.specs.Prelude.{◌≡◌, ◌↔◌, ℕ, ◌-◌, ◌<◌, IsOk, length, slice_get, slice_index};
 ghost use Rattle.steer_base.specs.Choices.{class_of};
 ghost use Rattle.hop_model.specs.Emptied.{AreEmptied, emptied};
-ghost use Rattle.hop_model.specs.Hop.{accepted_at, choices_of, delivered_at, drops_at, head_at};
-ghost use Rattle.hop_model.specs.Hop.{inside_of};
+ghost use Rattle.hop_model.specs.Hop.{accepted_at, arrivals_of, choices_of, delivered_at};
+ghost use Rattle.hop_model.specs.Hop.{drops_at, head_at, inside_of};
 ghost use Rattle.hop_model.specs.Hop.{out_at, placed_of, pulled_at, retired_at, tail_at, taken_of};
 ghost use Rattle.hop_model.specs.Reads.{last_choice, to_deliver, to_put, to_weigh};
 
@@ -150,6 +150,14 @@ impl Hop {
         ensures { result ≡ class_of (slice_index self.now.counts p) hash }
     {
         self.tables.class(p, hash)
+    }
+
+    /// The number of packets that arrived in a producer's ring.
+    pub fn arrivals_len(&self, p: u8) -> u32
+        requires { p < length self.now.arrivals }
+        ensures { result ≡ length (arrivals_of self.now p) }
+    {
+        self.rings.arrivals.len_of(p)
     }
 
     /// The number of packets that a producer has taken.

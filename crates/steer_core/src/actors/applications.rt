@@ -27,6 +27,7 @@ const NOTHING_SENT: Sent = Sent {
 
 impl Actors {
     /// Takes the next packet of the inbox in hand, to reply to it.
+    #[inline(always)]
     pub(super) fn send(&mut self, a: u8) -> Answer
         requires { a < self.old.machine.setup.apps }
         ensures state { self.new.machine ≡ (send self.old.machine a).0 }
@@ -114,6 +115,7 @@ impl Actors {
     }
 
     /// Chooses the transmit queue of the reply in hand by the migration rule.
+    #[inline(always)]
     pub(super) fn tweigh(&mut self, a: u8) -> Answer
         requires { a < self.old.machine.setup.apps }
         ensures state { self.new.machine ≡ (tweigh self.old.machine a).0 }
@@ -130,6 +132,7 @@ impl Actors {
 
     // What the reply in hand is weighed with: its flow number as class, and the pick of the maps as
     // want and as desired queue.
+    #[inline(always)]
     fn next_sending(&self, a: u8) -> Weighing
         requires { a < self.now.machine.setup.apps }
         ensures { weigh_event a result ≡ sending self.now.machine a (in_reply self.now.machine a) }
@@ -146,6 +149,7 @@ impl Actors {
     }
 
     /// Puts the reply in hand into its transmit queue.
+    #[inline(always)]
     pub(super) fn tput(&mut self, a: u8) -> Answer
         requires { a < self.old.machine.setup.apps }
         ensures state { self.new.machine ≡ (tput self.old.machine a).0 }

@@ -44,6 +44,7 @@ impl Actors {
     }
 
     /// Reads the socket flow table for the packet in hand, and keeps what was read.
+    #[inline(always)]
     pub(super) fn look(&mut self, q: u8) -> Answer
         requires { q < length self.old.machine.setup.homes }
         ensures state { self.new.machine ≡ (look self.old.machine q).0 }
@@ -66,6 +67,7 @@ impl Actors {
     }
 
     // The processor that a packet finds in the socket flow table.
+    #[inline(always)]
     fn seen_by(&self, q: u8, id: PacketId) -> Option<u8>
         requires { q < length self.now.machine.setup.homes }
         ensures { result ≡ seen_by self.now.machine q id }
@@ -76,6 +78,7 @@ impl Actors {
     }
 
     /// Chooses the processor of the packet in hand by the migration rule, with what was read.
+    #[inline(always)]
     pub(super) fn weigh(&mut self, q: u8) -> Answer
         requires { q < length self.old.machine.setup.homes }
         ensures state { self.new.machine ≡ (poller_weighs self.old.machine q).0 }
@@ -98,6 +101,7 @@ impl Actors {
     }
 
     // What the packet in hand is weighed with, if this was read in the socket flow table.
+    #[inline(always)]
     fn weighing(&self, q: u8, want: Option<u8>) -> Weighing
         requires queue { q < length self.now.machine.setup.homes }
         requires looked { note_of self.now.machine q ≡ Note.Looked want }
@@ -120,6 +124,7 @@ impl Actors {
     }
 
     /// Puts the packet in hand into the backlog of its processor, and notes a filter if one is due.
+    #[inline(always)]
     pub(super) fn put(&mut self, q: u8) -> Answer
         requires { q < length self.old.machine.setup.homes }
         ensures state { self.new.machine ≡ (poller_puts self.old.machine q).0 }

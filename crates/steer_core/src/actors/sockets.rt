@@ -45,6 +45,7 @@ impl Actors {
     }
 
     // The application of a hash goes through the receive gate and records its processor.
+    #[inline(always)]
     fn record_hash(&mut self, hash: u32) -> Answer
         requires { HasSpare self.old.rooms self.old.machine }
         ensures state { self.new.machine ≡ (record_hash self.old.machine hash).0 }

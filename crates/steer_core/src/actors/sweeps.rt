@@ -3,7 +3,7 @@ ghost use Rattle.std.specs.Prelude.{ℕ, ◌≡◌, ◌<◌, ◌≤◌, false, l
 ghost use Rattle.steer_base.specs.declared.step.Step.TheVariants as act;
 ghost use Rattle.steer_base.specs.declared.limits.TheConstants.{MAX_PACKETS};
 ghost use Rattle.steer_base.specs.Sets.{has};
-ghost use Rattle.steer_core.specs.Resting.{IsStill, OthersAreDone, SenderIsDone};
+ghost use Rattle.steer_core.specs.Resting.{IsStill, OthersAreDone, PollerIsDone, SenderIsDone};
 ghost use Rattle.steer_core.specs.Rooms.{HasSpare};
 ghost use Rattle.steer_model.specs.Steps.CompoundSteps.{drain, for_each, most_rounds as the_most};
 ghost use Rattle.steer_model.specs.Steps.CompoundSteps.{one_round, poll};
@@ -123,7 +123,7 @@ impl Actors {
         done
     }
 
-    // One turn of a busy poller. It is no longer busy if it did no work.
+    // One turn of a busy poller. It is no longer busy if it is at rest after its turn.
     fn poll_busy(&mut self, worked: bool, q: u8, busy: &mut Busy) -> bool
         requires queue { q < length self.old.machine.setup.homes }
         requires member { has busy.old.pollers q ≡ true }
@@ -133,12 +133,23 @@ impl Actors {
         ensures rooms { self.new.rooms ≡ self.old.rooms }
         ensures busy { OthersAreDone busy.new self.new.machine }
     {
-        self.sound();
-        if self.poll(false, q, &mut busy.cpus) {
-            return true;
+        let done = self.poll(worked, q, &mut busy.cpus);
+        if !self.is_poller_done(q) {
+            return done;
         }
         busy.pollers = busy.pollers.without(Cpu(q));
-        worked
+        done
+    }
+
+    // Whether a poller is at rest: it is outside the receive gate, keeps no note, and put all
+    // packets of its ring.
+    fn is_poller_done(&self, q: u8) -> bool
+        requires { q < length self.now.machine.setup.homes }
+        ensures { result ≡ true → PollerIsDone q self.now.machine }
+    {
+        !self.rx.is_inside(q)
+            && self.rx.placed(q) == self.rx.arrivals_len(q)
+            && self.notes[q as usize].is_nothing()
     }
 
     // One turn of each busy processor.

@@ -56,6 +56,7 @@ impl Actors {
     }
 
     /// Tries all events of a poller in order, and marks the processor to which it puts a packet.
+    #[inline(always)]
     pub(super) fn poll(&mut self, worked: bool, q: u8, cpus: &mut CpuMask) -> bool
         requires { q < length self.old.machine.setup.homes }
         ensures turn { (self.new.machine, result) ≡ poll q (self.old.machine, worked) }
@@ -78,6 +79,7 @@ impl Actors {
 
     /// Repeats the events of a processor until its hand is empty and nothing waits, and marks the
     /// applications to which it delivers.
+    #[inline(always)]
     pub(super) fn drain(&mut self, worked: bool, c: u8, apps: &mut CpuMask) -> bool
         requires { c < self.old.machine.setup.cpus }
         ensures turn { (self.new.machine, result) ≡ drain c (self.old.machine, worked) }
@@ -94,6 +96,7 @@ impl Actors {
     }
 
     // One packet gets through a processor.
+    #[inline(always)]
     fn drain_one(&mut self, worked: bool, c: u8, apps: &mut CpuMask) -> bool
         requires { c < self.old.machine.setup.cpus }
         ensures turn { (self.new.machine, result) ≡ tries (self.old.machine, worked) (drain_one c) }
@@ -112,6 +115,7 @@ impl Actors {
 
     /// Tries all events of an application in order, and marks the transmit queue to which it puts a
     /// reply.
+    #[inline(always)]
     pub(super) fn reply(&mut self, worked: bool, a: u8, txs: &mut CpuMask) -> bool
         requires { a < self.old.machine.setup.apps }
         ensures turn { (self.new.machine, result) ≡ reply a (self.old.machine, worked) }
@@ -132,6 +136,7 @@ impl Actors {
 
     /// Records the flow of the packet that an application replies to, then tries all its events as
     /// [`Actors::reply`] does.
+    #[inline(always)]
     pub(super) fn serve(&mut self, worked: bool, a: u8, txs: &mut CpuMask) -> bool
         requires app { a < self.old.machine.setup.apps }
         requires room { HasSpare self.old.rooms self.old.machine }
@@ -146,6 +151,7 @@ impl Actors {
     }
 
     // The flow of the packet that an application replies to is recorded, if there is one.
+    #[inline(always)]
     fn recorded(&mut self, worked: bool, a: u8) -> bool
         requires app { a < self.old.machine.setup.apps }
         requires room { HasSpare self.old.rooms self.old.machine }
@@ -161,6 +167,7 @@ impl Actors {
     }
 
     /// Repeats the events of a transmit queue until its hand is empty and nothing waits.
+    #[inline(always)]
     pub(super) fn ship(&mut self, worked: bool, t: u8) -> bool
         requires { t < self.old.machine.setup.txs }
         ensures turn { (self.new.machine, result) ≡ ship t (self.old.machine, worked) }
@@ -175,6 +182,7 @@ impl Actors {
     }
 
     // One reply gets through a transmit queue.
+    #[inline(always)]
     fn ship_one(&mut self, worked: bool, t: u8) -> bool
         requires { t < self.old.machine.setup.txs }
         ensures turn { (self.new.machine, result) ≡ tries (self.old.machine, worked) (ship_one t) }
