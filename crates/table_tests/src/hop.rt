@@ -271,7 +271,8 @@ fn the_largest_hop_is_made(rt: HostRuntime) -> Result<(), Fail> {
 fn shows_its_hands(rt: &impl Abort, hop: &Hop)
     requires producer { 0 < length hop.now.arrivals }
 {
-    same(rt, &(hop.taken(0), hop.placed(0)), &(2, 1), 0);
+    let counts = (hop.arrivals_len(0), hop.taken(0), hop.placed(0));
+    same(rt, &counts, &(2, 2, 1), 0);
     same(rt, &hop.to_put(0), &None, 1);
     same(rt, &hop.to_weigh(0), &Some(PacketId(1)), 1);
 }
