@@ -5,7 +5,7 @@ use crate::equal::{same, same_items};
 use crate::histories::replied;
 use history::{History, Via};
 use report_check::{ReportFault, is_report, read_report};
-use report_reader::{LaneSums, LastLine, read_parts};
+use report_reader::{Fields, LaneSums, LastLine, read_parts};
 use std::alloc::Global;
 use std::process::Abort;
 use std::snapshot::Snapshot;
@@ -182,5 +182,26 @@ fn a_report_shows_its_parts(rt: HostRuntime) -> Result<(), Fail> {
         cut: None,
     };
     same(&rt, &parts.last, &last, 6);
+    Ok(())
+}
+
+// A number and a dash of each width.
+const NUMBERS: &[u8] = b"cpu 255 at 4294967295 in - to -\n";
+
+#[test]
+fn fields_are_numbers(rt: HostRuntime) -> Result<(), Fail> {
+    let mut fields = Fields::make(rt.alloc());
+    let next = fields.read(NUMBERS, 0)?;
+    same(&rt, &next, &NUMBERS.len(), 0);
+    same(
+        &rt,
+        &(fields.byte(1), fields.word(3)),
+        &(255, 4_294_967_295),
+        1,
+    );
+    let numbers = (fields.maybe_byte(1), fields.maybe_word(3));
+    same(&rt, &numbers, &(Some(255), Some(4_294_967_295)), 2);
+    let dashes = (fields.maybe_byte(5), fields.maybe_word(7));
+    same(&rt, &dashes, &(None, None), 3);
     Ok(())
 }

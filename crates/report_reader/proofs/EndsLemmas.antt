@@ -7,7 +7,7 @@ use Rattle.std.proofs.Math.ListN.{get_or-append}
 use Rattle.std.proofs.lemmas.List.{get_or-drop, length-append, length-drop, length-map}
 use Rattle.std.proofs.lemmas.Bool.{cases_lt}
 use Rattle.report.specs.Texts.{AreFields, IsField, further}
-use Rattle.report_reader.specs.Ends.{Going, IsEnd}
+use Rattle.report_reader.specs.Ends.{AreAbove, Going, IsEnd, piece}
 
 field-at : (f : List ℕ) → IsField f → (j : ℕ) → j < length f → (get_or f j 0 ≢ 32)
     × (get_or f j 0 ≢ 10)
@@ -78,7 +78,7 @@ drop-none zero l e = e
 drop-none (suc n) [] e = refl
 drop-none (suc n) (x ∷ l) e = absurd (cc)
 
-drop-plus : (m n k : ℕ) (l : List ℕ) → k ≡ m + n → drop k l ≡ drop n (drop m l)
+pub drop-plus : (m n k : ℕ) (l : List ℕ) → k ≡ m + n → drop k l ≡ drop n (drop m l)
 drop-plus zero n k l e = let f : k ≡ n = omega (arith, e) in ap (λ i. drop i l) f
 drop-plus (suc m) n zero l e = absurd (omega (arith, e))
 drop-plus (suc m) n (suc k) [] e = sym (drop-none n [] refl)
@@ -115,13 +115,10 @@ going-in bytes start end done all rest is g = by g.more g.text
     by (f ∷ fs) t = going-whole bytes g.next ((f ++ further fs) ++ rest) start end 32 is t
         g.is_field (inl refl)
 
-abbrev pub Piece : List ℕ → ℕ → ℕ → List ℕ
-Piece bytes start end = take (end - start) (drop start bytes)
-
 -- the next field of a line
 pub piece-by : (bytes : List ℕ) (start end : ℕ) (rest next : List ℕ) (more : List (List ℕ))
     → IsEnd bytes start end → drop start bytes ≡ next ++ (further more ++ rest) → IsField next
-    → Piece bytes start end ≡ next
+    → piece bytes start end ≡ next
 piece-by bytes start end rest next [] is t f =
     piece-is bytes next rest start end 10 is t f (inr refl)
 piece-by bytes start end rest next (g ∷ gs) is t f =
@@ -134,7 +131,7 @@ last-by : (bytes : List ℕ) (start end : ℕ) (done all : List (List ℕ)) (res
     (more : List (List ℕ)) → IsEnd bytes start end
     → done ++ (next ∷ more) ≡ all → drop start bytes ≡ next ++ (further more ++ rest) → IsField next
     → get_or bytes end 0 ≡ 10
-    → (done ++ (Piece bytes start end ∷ []) ≡ all) × (drop (end + 1) bytes ≡ rest)
+    → (done ++ (piece bytes start end ∷ []) ≡ all) × (drop (end + 1) bytes ≡ rest)
 last-by bytes start end done all rest next [] is p t f e = (
   ap (λ x. done ++ (x ∷ [])) (piece-is bytes next rest start end 10 is t f (inr refl)) ∙ p,
   follows bytes next rest start end 10 (end-is bytes next rest start end 10 is t f (inr refl)) t,
@@ -145,7 +142,7 @@ last-by bytes start end done all rest next (g ∷ gs) is p t f e =
 
 pub going-last : (bytes : List ℕ) (start end : ℕ) (done all : List (List ℕ)) (rest : List ℕ)
     → IsEnd bytes start end → Going bytes start done all rest
-    → get_or bytes end 0 ≡ 10 → (done ++ (Piece bytes start end ∷ []) ≡ all)
+    → get_or bytes end 0 ≡ 10 → (done ++ (piece bytes start end ∷ []) ≡ all)
     × (drop (end + 1) bytes ≡ rest)
 going-last bytes start end done all rest is g e = last-by bytes start end done all rest g.next
     g.more is g.parts g.text g.is_field e
@@ -154,7 +151,7 @@ next-by : (bytes : List ℕ) (start end : ℕ) (done all : List (List ℕ)) (res
     (more : List (List ℕ)) → IsEnd bytes start end
     → done ++ (next ∷ more) ≡ all → drop start bytes ≡ next ++ (further more ++ rest) → IsField next
     → AreFields more → (get_or bytes end 0 ≡ 10 → ⊥)
-    → Going bytes (end + 1) (done ++ (Piece bytes start end ∷ [])) all rest
+    → Going bytes (end + 1) (done ++ (piece bytes start end ∷ [])) all rest
 next-by bytes start end done all rest next [] is p t f fs e =
     absurd (e (cut-is bytes next rest start end 10 is t f (inr refl)).1)
 next-by bytes start end done all rest next (g ∷ gs) is p t f fs e =
@@ -163,7 +160,7 @@ next-by bytes start end done all rest next (g ∷ gs) is p t f fs e =
     record {
       next = g;
       more = gs;
-      parts = parts-on done (Piece bytes start end) (g ∷ gs) ∙ ap (λ x. done ++ (x ∷ g ∷ gs)) same
+      parts = parts-on done (piece bytes start end) (g ∷ gs) ∙ ap (λ x. done ++ (x ∷ g ∷ gs)) same
           ∙ p;
       text = follows bytes next tail start end 32 (end-is bytes next tail start end 32 is t f
           (inl refl)) t ∙ append_assoc g (further gs) rest;
@@ -173,7 +170,7 @@ next-by bytes start end done all rest next (g ∷ gs) is p t f fs e =
 
 pub going-next : (bytes : List ℕ) (start end : ℕ) (done all : List (List ℕ)) (rest : List ℕ)
     → IsEnd bytes start end → Going bytes start done all rest
-    → (get_or bytes end 0 ≡ 10 → ⊥) → Going bytes (end + 1) (done ++ (Piece bytes start end ∷ []))
+    → (get_or bytes end 0 ≡ 10 → ⊥) → Going bytes (end + 1) (done ++ (piece bytes start end ∷ []))
     all rest
 going-next bytes start end done all rest is g e = next-by bytes start end done all rest g.next
     g.more is g.parts g.text g.is_field g.are_fields e
@@ -209,3 +206,31 @@ full-line f bytes start done all rest g few n =
     length-append (map f done) (g.next ∷ g.more) in
     let e = ap length g.parts in
     omega (arith, m, l, e, few, n)
+
+-- ---- bytes above the space
+
+pub above-more : (bytes : List ℕ) (a b : ℕ)
+    → ((j : ℕ) → a ≤ j → j < b → 32 < get_or bytes j 0) → 32 < get_or bytes b 0
+    → (j : ℕ) → a ≤ j → j < b + 1 → 32 < get_or bytes j 0
+above-more bytes a b before here j p q =
+    elim (cases_lt j b) [
+      | inl l ↦ before j p l
+      | inr k ↦ subst (λ i. 32 < get_or bytes i 0) (let e : b ≡ j = omega (arith, k, q) in e) here
+    ]
+
+-- a byte that is no stop, and bytes above the space behind it
+pub plain-on : (bytes : List ℕ) (a b c : ℕ)
+    → ((j : ℕ) → a ≤ j → j < b → (get_or bytes j 0 ≢ 32) × (get_or bytes j 0 ≢ 10))
+    → (get_or bytes b 0 ≢ 32) × (get_or bytes b 0 ≢ 10) → AreAbove bytes (b + 1) c
+    → (j : ℕ) → a ≤ j → j < c → (get_or bytes j 0 ≢ 32) × (get_or bytes j 0 ≢ 10)
+plain-on bytes a b c before here behind j p q =
+    elim (cases_lt j b) [
+      | inl l ↦ before j p l
+      | inr k ↦ elim (cases_lt b j) [
+        | inl m ↦ (
+            let high = behind.above j (omega (arith, m)) q in
+            (λ e. absurd (omega (arith, high, e)), λ e. absurd (omega (arith, high, e))))
+        | inr m ↦ subst (λ i. (get_or bytes i 0 ≢ 32) × (get_or bytes i 0 ≢ 10))
+            (let e : b ≡ j = omega (arith, k, m) in e) here
+      ]
+    ]

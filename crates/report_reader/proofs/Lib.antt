@@ -3,6 +3,7 @@ pub mod EndsLemmas
 pub mod JoinedLemmas
 pub mod LastLemmas
 pub mod MembersLemmas
+pub mod NumbersLemmas
 pub mod OthersLemmas
 pub mod PairsLemmas
 pub mod PartsLemmas

@@ -5,9 +5,9 @@ use Rattle.std.proofs.Common.{append_assoc, inl, inr}
 use Rattle.std.proofs.lemmas.List.{length-append, length-drop, length-map}
 use Rattle.std.specs.Prelude.{slice_index_or}
 use Rattle.report.specs.Texts.{AreFields, further}
-use Rattle.report_reader.specs.Ends.{Going, IsEnd}
+use Rattle.report_reader.specs.Ends.{Going, IsEnd, piece}
 use Rattle.report_reader.specs.Values.{HasSteps, values_of}
-use Rattle.report_reader.proofs.EndsLemmas.{Piece, follows, going-last, going-next, parts-on}
+use Rattle.report_reader.proofs.EndsLemmas.{follows, going-last, going-next, parts-on}
 use Rattle.report_reader.proofs.EndsLemmas.{piece-by, pushed-view}
 
 -- A line that is being read: its fields that are left, and the values that were found.
@@ -134,7 +134,7 @@ module _ (bytes : List ℕ) (from end : ℕ) (steps : List ℕ) (done wanted : L
     (rest : List ℕ) (is : IsEnd bytes from end) (v : AtValue bytes from steps done wanted rest)
   where
     pub value-last : get_or bytes end 0 ≡ 10
-        → (done ++ (Piece bytes from end ∷ []) ≡ wanted) × (drop (end + 1) bytes ≡ rest)
+        → (done ++ (piece bytes from end ∷ []) ≡ wanted) × (drop (end + 1) bytes ≡ rest)
     value-last e =
         let l = going-last bytes from end [] (v.value ∷ v.more) rest is v.line e in
         let none : v.more ≡ [] = sym (tail-same _ _ _ _ l.0) in (
@@ -145,7 +145,7 @@ module _ (bytes : List ℕ) (from end : ℕ) (steps : List ℕ) (done wanted : L
         )
 
     pub value-next : (get_or bytes end 0 ≡ 10 → ⊥)
-        → Stepping bytes (end + 1) steps (done ++ (Piece bytes from end ∷ [])) wanted rest
+        → Stepping bytes (end + 1) steps (done ++ (piece bytes from end ∷ [])) wanted rest
     value-next e =
         let g = going-next bytes from end [] (v.value ∷ v.more) rest is v.line e in
         let more : g.next ∷ g.more ≡ v.more = tail-same _ _ _ _ g.parts in
@@ -160,7 +160,7 @@ module _ (bytes : List ℕ) (from end : ℕ) (steps : List ℕ) (done wanted : L
             are_fields = g.are_fields;
           };
           has = v.has;
-          joins = parts-on done (Piece bytes from end) (values_of steps v.more)
+          joins = parts-on done (piece bytes from end) (values_of steps v.more)
               ∙ ap (λ x. done ++ (x ∷ values_of steps v.more)) (head-same _ _ _ _ g.parts)
               ∙ v.joins;
         }
@@ -201,6 +201,6 @@ full-values f bytes from steps all-steps done all rest v few n =
 -- the first field of a line
 pub first-field : (bytes : List ℕ) (start end : ℕ) (word : List ℕ) (fields : List (List ℕ))
     (rest : List ℕ) → IsEnd bytes start end → Going bytes start [] (word ∷ fields) rest
-    → Piece bytes start end ≡ word
+    → piece bytes start end ≡ word
 first-field bytes start end word fields rest is g =
     piece-by bytes start end rest g.next g.more is g.text g.is_field ∙ head-same _ _ _ _ g.parts

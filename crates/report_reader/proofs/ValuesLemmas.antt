@@ -19,7 +19,7 @@ in_range : (c : ℕ) → 48 ≤ c → c ≤ 57 → (nat_le 48 c && nat_le c 57) 
 in_range c a b = let s : nat_le 48 c ≡ true = le-leb 48 c a in let t : nat_le c 57 ≡ true =
     le-leb c 57 b in rw (s, t) refl
 
-goes : (n c : ℕ) (cs : List ℕ) → 48 ≤ c → c ≤ 57 → digits_from n (c ∷ cs) ≡ digits_from
+pub goes : (n c : ℕ) (cs : List ℕ) → 48 ≤ c → c ≤ 57 → digits_from n (c ∷ cs) ≡ digits_from
     (n * 10 + (c - 48)) cs
 goes n c cs a b = rw (in_range c a b) refl
 
@@ -35,6 +35,12 @@ is-number n (c ∷ cs) h =
     let g = goes n c cs h.0 h.1 in
     g ∙ is-number (n * 10 + (c - 48)) cs h.2 ∙ ap (λ o. Some (unwrap_or o 0)) (sym g)
 
+-- the digits of a number go on to it
+pub digits-of : (n : ℕ) → n < 2 ^ 64 → digits_from 0 (decimal n) ≡ Some n
+digits-of n h =
+    is-number 0 (decimal n) (decimal-AreDigits n)
+    ∙ ap (λ m. Some m) (digits_value-decimal (numerals_by_fold _ tells_digits folded folds) n h)
+
 -- a decimal text is read as its number
 pub read-decimal : (n : ℕ) → n < 2 ^ 64 → decimal_number 20 (decimal n) ≡ Some n
 unfolding decimal_number
@@ -44,9 +50,7 @@ read-decimal n h =
     let s : nat_lt 0 (length (decimal n)) ≡ true = lt-ltb 0 (length (decimal n))
     (decimal_nonempty n h) in
     let t : nat_le (length (decimal n)) 20 ≡ true = le-leb (length (decimal n)) 20 long in
-    rw (s, t) (is-number 0 (decimal n) (decimal-AreDigits n)
-    ∙ ap (λ m. Some m) (digits_value-decimal (numerals_by_fold _ tells_digits folded folds) n
-    h))
+    rw (s, t) (digits-of n h)
 
 pub read-number : (n : ℕ) (field : List ℕ) (o : Option ℕ) → n < 2 ^ 64 → field ≡ decimal n
     → o ≡ decimal_number 20 field → o ≡ Some n
@@ -65,24 +69,6 @@ some-option (Some m) n field bits e d f h = ap (λ k. Some k) (h m f e)
 
 below : (m bits : ℕ) → bits ≤ 32 → m < 2 ^ bits → m < 2 ^ 64
 below m bits s f = let p : 2 ^ bits ≤ 2 ^ 32 = pow-le-pow_right (lit< tt) s in omega (arith, f, p)
-
-read-short-decimal : (n : ℕ) → n < 2 ^ 32 → n < 2 ^ 64 → decimal_number 10 (decimal n) ≡ Some n
-unfolding decimal_number
-read-short-decimal n s h =
-    let long : length (decimal n) ≤ 10 = length-decimal-le 10 n (omega arith) (omega (arith, s)) h
-    in
-    let s : nat_lt 0 (length (decimal n)) ≡ true = lt-ltb 0 (length (decimal n))
-    (decimal_nonempty n h) in
-    let t : nat_le (length (decimal n)) 10 ≡ true = le-leb (length (decimal n)) 10 long in
-    rw (s, t) (is-number 0 (decimal n) (decimal-AreDigits n)
-    ∙ ap (λ m. Some m) (digits_value-decimal (numerals_by_fold _ tells_digits folded folds) n
-    h))
-
--- a decimal text of at most ten digits is read as its number
-pub read-short : (n : ℕ) (field : List ℕ) (o : Option ℕ) → n < 2 ^ 32 → field ≡ decimal n
-    → o ≡ decimal_number 10 field → o ≡ Some n
-read-short n field o h e r =
-    r ∙ ap (decimal_number 10) e ∙ read-short-decimal n h (below n 32 (omega arith) h)
 
 pub none-option : (o : Option ℕ) (field : List ℕ) (bits : ℕ) → bits ≤ 32 → field ≡ or_dash o
     → field ≡ codes "-" → FitsIn bits o → None ≡ o

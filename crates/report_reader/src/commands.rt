@@ -13,7 +13,6 @@ use crate::fields::Fields;
 use crate::sections::Section;
 use crate::sets::members;
 use crate::shortest::SHORTEST_COMMAND;
-use crate::values::{byte, word};
 use history::Commanded;
 use steer_base::{Answer, AppId, Busy, Command, Cpu, Idle, RxQueue, TxQueue, User};
 
@@ -26,13 +25,13 @@ fn command(fields: &Fields<'_>) -> Command
 {
     let kind = fields.at(2);
     if kind == b"sock".as_slice() {
-        return Command::Sock(word(fields.at(3)));
+        return Command::Sock(fields.word(3));
     }
     if kind == b"offline".as_slice() {
-        return Command::Offline(Cpu(byte(fields.at(3))));
+        return Command::Offline(Cpu(fields.byte(3)));
     }
     if kind == b"online".as_slice() {
-        return Command::Online(Cpu(byte(fields.at(3))));
+        return Command::Online(Cpu(fields.byte(3)));
     }
     if kind == b"expire".as_slice() {
         return Command::Expire;
@@ -45,12 +44,12 @@ fn pair(fields: &Fields<'_>) -> Command
     ensures { (c : ACommand) → ShowsCommand fields.now c → has_pair c ≡ true → result ≡ c }
 {
     let kind = fields.at(2);
-    let first = byte(fields.at(3));
+    let first = fields.byte(3);
     if kind == b"mask".as_slice() {
         return Command::Mask(RxQueue(first), members(fields.at(4)));
     }
     if kind == b"flows".as_slice() {
-        return Command::Flows(RxQueue(first), word(fields.at(4)));
+        return Command::Flows(RxQueue(first), fields.word(4));
     }
     if kind == b"xcpus".as_slice() {
         return Command::XCpus(TxQueue(first), members(fields.at(4)));
@@ -59,9 +58,9 @@ fn pair(fields: &Fields<'_>) -> Command
         return Command::XQueues(TxQueue(first), (members(fields.at(4)).0 & 65_535) as u16);
     }
     if kind == b"reta".as_slice() {
-        return Command::Reta(first, RxQueue(byte(fields.at(4))));
+        return Command::Reta(first, RxQueue(fields.byte(4)));
     }
-    Command::Stand(AppId(first), Cpu(byte(fields.at(4))))
+    Command::Stand(AppId(first), Cpu(fields.byte(4)))
 }
 
 // How many fields there are before those of the answer to a command.
@@ -83,12 +82,12 @@ fn busy(fields: &Fields<'_>, from: usize) -> Busy
     ensures { (b : ABusy) → ShowsBusy fields.now from b → result ≡ b }
 {
     if fields.at(from) == b"inside".as_slice() {
-        return Busy::Inside(word(fields.at(from + 1)));
+        return Busy::Inside(fields.word(from + 1));
     }
     Busy::NotEmpty {
-        lane: byte(fields.at(from + 1)),
-        head: word(fields.at(from + 3)),
-        tail: word(fields.at(from + 5)),
+        lane: fields.byte(from + 1),
+        head: fields.word(from + 3),
+        tail: fields.word(from + 5),
     }
 }
 
@@ -98,9 +97,9 @@ fn user(fields: &Fields<'_>, from: usize) -> User
     ensures { (u : AUser) → ShowsUser fields.now from u → result ≡ u }
 {
     if fields.at(from) == b"queue".as_slice() {
-        return User::Queue(RxQueue(byte(fields.at(from + 1))));
+        return User::Queue(RxQueue(fields.byte(from + 1)));
     }
-    User::App(AppId(byte(fields.at(from + 1))))
+    User::App(AppId(fields.byte(from + 1)))
 }
 
 // The answer, with the fields from this one on.
@@ -124,7 +123,7 @@ fn answer(fields: &Fields<'_>, from: usize) -> Answer
     if kind == b"cpu".as_slice() {
         return Answer::CpuOffline;
     }
-    Answer::Expired(word(fields.at(from + 1)))
+    Answer::Expired(fields.word(from + 1))
 }
 
 impl Section<Commanded> for Commands {

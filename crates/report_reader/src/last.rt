@@ -3,7 +3,6 @@ ghost use Rattle.std.specs.Prelude.{◌≡◌, ◌≤◌, ℕ, Option, IfOk, len
 ghost use Rattle.report_reader.specs.Sections.{IsLast, ShowsCut};
 
 use crate::fields::Fields;
-use crate::values::word;
 use std::alloc::Global;
 use steer_base::OutOfMemory;
 
@@ -21,7 +20,7 @@ fn cut_of(fields: &Fields<'_>) -> Option<u32>
     ensures { (o : Option ℕ) → ShowsCut fields.now o → result ≡ o }
 {
     if fields.at(4) == b"cut".as_slice() {
-        Some(word(fields.at(5)))
+        Some(fields.word(5))
     } else {
         None
     }
@@ -36,7 +35,7 @@ pub fn read_last(alloc: Global, bytes: &[u8], at: usize) -> Result<LastLine, Out
     let mut fields = Fields::make(alloc);
     fields.read(bytes, at)?;
     Ok(LastLine {
-        total: word(fields.at(3)),
+        total: fields.word(3),
         cut: cut_of(&fields),
     })
 }

@@ -9,7 +9,7 @@ use crate::puts::{put, put_end};
 use crate::sections::Section;
 use crate::seen::choice;
 use crate::shortest::{SHORTEST_PACKET, SHORTEST_REPLY};
-use crate::values::{byte, maybe_word, via, word};
+use crate::values::via;
 use history::Via;
 use steer_base::{AppId, Choice, Cpu, PacketId, Put, RxQueue};
 
@@ -84,12 +84,12 @@ impl Section<SeenPacket> for Packets {
         let put = put(fields);
         let behind = put_end(put);
         SeenPacket {
-            queue: RxQueue(byte(fields.at(1))),
+            queue: RxQueue(fields.byte(1)),
             via: via(fields.at(2)),
-            choice: choice(fields, maybe_word(fields.at(3))),
+            choice: choice(fields, fields.maybe_word(3)),
             put,
-            app: AppId(byte(fields.at(behind + 1))),
-            inbox: maybe_word(fields.at(behind + 3)),
+            app: AppId(fields.byte(behind + 1)),
+            inbox: fields.maybe_word(behind + 3),
         }
     }
 }
@@ -117,12 +117,12 @@ impl Section<SeenReply> for Replies {
 
     fn item(&self, fields: &Fields<'_>) -> SeenReply {
         SeenReply {
-            id: PacketId(word(fields.at(0))),
-            rxq: RxQueue(byte(fields.at(2))),
-            cpu: Cpu(byte(fields.at(3))),
+            id: PacketId(fields.word(0)),
+            rxq: RxQueue(fields.byte(2)),
+            cpu: Cpu(fields.byte(3)),
             choice: choice(fields, None),
-            put: maybe_word(fields.at(9)),
-            port: maybe_word(fields.at(10)),
+            put: fields.maybe_word(9),
+            port: fields.maybe_word(10),
         }
     }
 }

@@ -5,7 +5,6 @@ ghost use Rattle.steer_base.specs.declared.put.Put.{Put as APut};
 ghost use Rattle.report_reader.specs.Seen.{ShowsCause, ShowsPut, put_end as end_of};
 
 use crate::fields::Fields;
-use crate::values::word;
 use steer_base::{DropCause, Put};
 
 // Why a packet was dropped.
@@ -13,7 +12,7 @@ fn cause(fields: &Fields<'_>) -> DropCause
     ensures { (c : ACause) → ShowsCause fields.now c → result ≡ c }
 {
     if fields.at(13) == b"flow".as_slice() {
-        DropCause::Flow(word(fields.at(14)))
+        DropCause::Flow(fields.word(14))
     } else {
         DropCause::Full
     }
@@ -29,13 +28,13 @@ pub fn put(fields: &Fields<'_>) -> Option<Put>
     }
     if first == b"drop".as_slice() {
         return Some(Put::Dropped {
-            number: word(fields.at(10)),
-            accepted: word(fields.at(11)),
-            pulled: word(fields.at(12)),
+            number: fields.word(10),
+            accepted: fields.word(11),
+            pulled: fields.word(12),
             cause: cause(fields),
         });
     }
-    Some(Put::At(word(first)))
+    Some(Put::At(fields.word(9)))
 }
 
 /// How many values there are before the word of the application.

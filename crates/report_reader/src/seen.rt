@@ -4,14 +4,14 @@ ghost use Rattle.steer_base.specs.declared.choice.Choice.{Choice as AChoice};
 ghost use Rattle.report_reader.specs.Seen.{ShowsChoice};
 
 use crate::fields::Fields;
-use crate::values::{maybe_byte, maybe_word, why};
+use crate::values::why;
 use steer_base::Choice;
 
 /// The choice of a lane that values show, with this class.
 pub fn choice(fields: &Fields<'_>, class: Option<u32>) -> Option<Choice>
     ensures { (o : Option AChoice) → ShowsChoice fields.now class o → result ≡ o }
 {
-    let Some(lane) = maybe_byte(fields.at(7)) else {
+    let Some(lane) = fields.maybe_byte(7) else {
         return None;
     };
     let Some(why) = why(fields.at(8)) else {
@@ -19,9 +19,9 @@ pub fn choice(fields: &Fields<'_>, class: Option<u32>) -> Option<Choice>
     };
     Some(Choice {
         class,
-        want: maybe_byte(fields.at(4)),
-        head: maybe_word(fields.at(5)),
-        tail: maybe_word(fields.at(6)),
+        want: fields.maybe_byte(4),
+        head: fields.maybe_word(5),
+        tail: fields.maybe_word(6),
         lane,
         why,
     })

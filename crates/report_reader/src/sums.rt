@@ -10,7 +10,6 @@ ghost use Rattle.report_reader.specs.Sums.{ShowsSums, ShowsTaken, ShowsWrite};
 use crate::fields::Fields;
 use crate::sections::Section;
 use crate::shortest::{SHORTEST_CPU, SHORTEST_QUEUE, SHORTEST_TX, SHORTEST_WRITE};
-use crate::values::{byte, word};
 use history::SockWrite;
 use steer_base::{AppId, Cpu};
 
@@ -51,9 +50,9 @@ fn sums(fields: &Fields<'_>) -> LaneSums
     ensures { (s : ASums) → ShowsSums s fields.now → result ≡ s }
 {
     LaneSums {
-        pulled: word(fields.at(5)),
-        delivered: word(fields.at(7)),
-        retired: word(fields.at(9)),
+        pulled: fields.word(5),
+        delivered: fields.word(7),
+        retired: fields.word(9),
     }
 }
 
@@ -79,7 +78,7 @@ impl Section<u32> for Queues {
     }
 
     fn item(&self, fields: &Fields<'_>) -> u32 {
-        word(fields.at(5))
+        fields.word(5)
     }
 }
 
@@ -158,10 +157,10 @@ impl Section<AppWrite> for Writes {
 
     fn item(&self, fields: &Fields<'_>) -> AppWrite {
         AppWrite {
-            app: AppId(byte(fields.at(2))),
+            app: AppId(fields.byte(2)),
             write: SockWrite {
-                entry: word(fields.at(4)),
-                cpu: Cpu(byte(fields.at(6))),
+                entry: fields.word(4),
+                cpu: Cpu(fields.byte(6)),
             },
         }
     }

@@ -12,6 +12,6 @@ pub returns-then-eq-2 : goal.returns-then-eq-2
 returns-then-eq-2 c = λ o s. put-drop c.args.fields.now o _ _ _ _ s
     (sym c.at-first.ensures ∙ (bytes_eq-Decides c.at-first.result.now _).0 (sym c.eq-2.ensures
     ∙ c.if-eq-2.true) ∙ c.as_slice-2.ensures)
-    (λ m f e. c.word.ensures m f (c.at.ensures ∙ e))
-    (λ m f e. c.word-then-eq-2.ensures m f (c.at-then-eq-2.ensures ∙ e))
-    (λ m f e. c.word-then-eq-2-2.ensures m f (c.at-then-eq-2-2.ensures ∙ e)) c.cause.ensures
+    (λ m f e. c.word.ensures m f e)
+    (λ m f e. c.word-then-eq-2.ensures m f e)
+    (λ m f e. c.word-then-eq-2-2.ensures m f e) c.cause.ensures

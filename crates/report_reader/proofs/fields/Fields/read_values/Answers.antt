@@ -12,7 +12,7 @@ returns-then-len-eq-MOST_FIELDS-clause-values c = λ all rest few g h.
     let v = step-over _ _ (c.loop-start.start + c.min.result) _ _ rest c.args.steps.now _ _ _
     (c.len.ensures ∙ c.loop-start.self-inside.fields.ok.0) c.step_at-step.ensures
     (c.loop-start.invariant.line all rest few g h) (omega (arith, c.min.ensures)) in
-    absurd (full-values (λ f. f.now) _ _ _ _ _ _ _ v few
+    absurd (full-values (λ f. f.text.now) _ _ _ _ _ _ _ v few
     (sym c.loop-start.self-inside.fields.ok.0 ∙ sym c.len-in-loop-start.ensures
     ∙ c.if-len-eq-MOST_FIELDS.true))
 
@@ -21,7 +21,7 @@ returns-then-len-eq-MOST_FIELDS-clause-next c = λ all rest few g h.
     let v = step-over _ _ (c.loop-start.start + c.min.result) _ _ rest c.args.steps.now _ _ _
     (c.len.ensures ∙ c.loop-start.self-inside.fields.ok.0) c.step_at-step.ensures
     (c.loop-start.invariant.line all rest few g h) (omega (arith, c.min.ensures)) in
-    absurd (full-values (λ f. f.now) _ _ _ _ _ _ _ v few
+    absurd (full-values (λ f. f.text.now) _ _ _ _ _ _ _ v few
     (sym c.loop-start.self-inside.fields.ok.0 ∙ sym c.len-in-loop-start.ensures
     ∙ c.if-len-eq-MOST_FIELDS.true))
 
@@ -31,7 +31,7 @@ returns-then-end-bytes-clause-values c = λ all rest few g h.
     let v = step-over _ _ (c.loop-start.start + c.min.result) _ _ rest c.args.steps.now _ _ _
     (c.len.ensures ∙ c.loop-start.self-inside.fields.ok.0) c.step_at-step.ensures
     (c.loop-start.invariant.line all rest few g h) (omega (arith, c.min.ensures)) in
-    let i = going-in _ _ _ _ _ _ c.field_end-end.ensures v.line in
+    let i = going-in _ _ _ _ _ _ c.field_end-end.ensures.end v.line in
     absurd (omega (arith, i, c.if-end-bytes.true))
 
 pub returns-then-end-bytes-clause-next : goal.returns-then-end-bytes-clause-next
@@ -39,7 +39,7 @@ returns-then-end-bytes-clause-next c = λ all rest few g h.
     let v = step-over _ _ (c.loop-start.start + c.min.result) _ _ rest c.args.steps.now _ _ _
     (c.len.ensures ∙ c.loop-start.self-inside.fields.ok.0) c.step_at-step.ensures
     (c.loop-start.invariant.line all rest few g h) (omega (arith, c.min.ensures)) in
-    let i = going-in _ _ _ _ _ _ c.field_end-end.ensures v.line in
+    let i = going-in _ _ _ _ _ _ c.field_end-end.ensures.end v.line in
     absurd (omega (arith, i, c.if-end-bytes.true))
 
 pub returns-then-bytes-end-eq10-clause-values : goal.returns-then-bytes-end-eq10-clause-values
@@ -47,27 +47,28 @@ returns-then-bytes-end-eq10-clause-values c = λ all rest few g h.
     let v = step-over _ _ (c.loop-start.start + c.min.result) _ _ rest c.args.steps.now _ _ _
     (c.len.ensures ∙ c.loop-start.self-inside.fields.ok.0) c.step_at-step.ensures
     (c.loop-start.invariant.line all rest few g h) (omega (arith, c.min.ensures)) in
-    pushed-view (λ f. f.now) _ _ _ c.in_ok-push.ensures.items
-    ∙ (value-last _ _ _ _ _ _ _ c.field_end-end.ensures v c.if-bytes-end-eq10.true).0
+    pushed-view (λ f. f.text.now) _ _ _ c.in_ok-push.ensures.items
+    ∙ (value-last _ _ _ _ _ _ _ c.field_end-end.ensures.end v c.if-bytes-end-eq10.true).0
 
 pub returns-then-bytes-end-eq10-clause-next : goal.returns-then-bytes-end-eq10-clause-next
 returns-then-bytes-end-eq10-clause-next c = λ all rest few g h.
     let v = step-over _ _ (c.loop-start.start + c.min.result) _ _ rest c.args.steps.now _ _ _
     (c.len.ensures ∙ c.loop-start.self-inside.fields.ok.0) c.step_at-step.ensures
     (c.loop-start.invariant.line all rest few g h) (omega (arith, c.min.ensures)) in
-    (value-last _ _ _ _ _ _ _ c.field_end-end.ensures v c.if-bytes-end-eq10.true).1
+    (value-last _ _ _ _ _ _ _ c.field_end-end.ensures.end v c.if-bytes-end-eq10.true).1
 
 pub loop-start-preserved : goal.loop-start-preserved
 loop-start-preserved c =
     record {
       within = search rules;
       behind = search rules;
+      numbers = search rules;
       line = λ all rest few g h.
           let v = step-over _ _ (c.loop-start.start + c.min.result) _ _ rest c.args.steps.now _ _ _
           (c.len.ensures ∙ c.loop-start.self-inside.fields.ok.0) c.step_at-step.ensures
           (c.loop-start.invariant.line all rest few g h) (omega (arith, c.min.ensures)) in
-          value-pushed (λ f. f.now) _ _ _ _ _ _ _ _ c.in_ok-push.ensures.items
-          (value-next _ _ _ _ _ _ _ c.field_end-end.ensures v c.if-bytes-end-eq10.false);
+          value-pushed (λ f. f.text.now) _ _ _ _ _ _ _ _ c.in_ok-push.ensures.items
+          (value-next _ _ _ _ _ _ _ c.field_end-end.ensures.end v c.if-bytes-end-eq10.false);
     }
 
 pub returns-clause-values : goal.returns-clause-values

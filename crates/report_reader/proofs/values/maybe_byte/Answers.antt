@@ -1,9 +1,0 @@
-use Rattle.std.proofs.Common.{sym, ◌∙◌, arith}
-use Rattle.std.proofs.lemmas.Slice.Eq.{bytes_eq-Decides}
-use Rattle.report_reader.proofs.ValuesLemmas.{none-option}
-use Rattle.report_reader.proofs.values.maybe_byte.Goals as goal
-
-pub returns-then-eq : goal.returns-then-eq
-returns-then-eq c = λ o f e. none-option o c.args.field.now 8 (omega arith) e
-    ((bytes_eq-Decides c.args.field.now _).0 (sym c.eq.ensures ∙ c.if-eq.true) ∙ c.as_slice.ensures)
-    f
