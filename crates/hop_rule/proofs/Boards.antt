@@ -1,20 +1,13 @@
 -- One order of lanes and gate: its two parts, and what it was at a moment.
-use Rattle.std.proofs.Common.{◌≡◌, ℕ, zero, suc, ◌-◌, ◌<◌, ◌≤◌, List, [], ◌∷◌, ◌++◌, Option}
-use Rattle.std.proofs.Common.{length, drop, sym, refl, ap, ◌∙◌, subst, arith, append_assoc}
-use Rattle.steer_base.specs.declared.put.Put.{Put}
-use Rattle.backlog.specs.Puts.{after_put}
-use Rattle.linearization.specs.Orders.{StepBy, step_by}
-use Rattle.linearization.proofs.ListLemmas.{if_same}
-use Rattle.hop_rule.specs.Boards.{lane_at, lanes_of, gates_of, MayCome, IsLawful, retired}
+use Rattle.std.proofs.Common.{append_assoc}
 use Rattle.hop_rule.specs.Gates as gates
 use Rattle.hop_rule.specs.Lanes as lanes
-use Rattle.hop_rule.specs.Moments.{past, IsStep}
-use Rattle.hop_rule.specs.PutLaws.{IsPut}
-use Rattle.hop_rule.specs.declared.sizes.BoardSizes.{BoardSizes}
-use Rattle.hop_rule.specs.declared.step.BoardStep.{BoardStep}
-use Rattle.hop_rule.specs.declared.step.BoardStep.TheVariants.{Lane, Gate, Weighed, Counted}
-use Rattle.hop_rule.specs.declared.step.BoardStep.TheVariants.{LaneOut, LaneIn, OutCounted}
-use Rattle.hop_rule.specs.declared.step.LaneStep.{LaneStep}
+use Rattle.hop_rule.proofs.Names.{◌≡◌, ℕ, zero, suc, ◌-◌, ◌<◌, ◌≤◌, List, [], ◌∷◌, ◌++◌, Option}
+use Rattle.hop_rule.proofs.Names.{length, drop, sym, refl, ap, ◌∙◌, subst, arith, Put, after_put}
+use Rattle.hop_rule.proofs.Names.{StepBy, step_by, if_same, lane_at, lanes_of, gates_of, MayCome}
+use Rattle.hop_rule.proofs.Names.{IsLawful, retired, past, IsStep, IsPut, BoardSizes, BoardStep}
+use Rattle.hop_rule.proofs.Names.{Lane, Gate, Weighed, Counted, LaneOut, LaneIn, OutCounted}
+use Rattle.hop_rule.proofs.Names.{LaneStep}
 use Rattle.hop_rule.proofs.Cases.{lane_part, gate_part, lane_part_case, retired_case}
 use Rattle.hop_rule.proofs.Lanes.{counted}
 use Rattle.hop_rule.proofs.Moments.{along}

@@ -1,24 +1,15 @@
 -- What a step does to one lane, one out lane, one head, or one part of an order: something, or
 -- nothing.
-use Rattle.std.proofs.Common.{◌≡◌, ◌≢◌, ℕ, ◌+◌, ◌==◌, List, [], ◌∷◌, ◌++◌, if◌then◌else◌}
-use Rattle.std.proofs.Common.{sym, refl, ap, subst}
 use Rattle.std.specs.List.{cons_option}
 use Rattle.std.specs.Option.{option_map}
-use mathlib.Core.Logic.{dite}
-use native.Mathlib.Decide.{ℕ_discrete}
-use Rattle.steer_base.specs.Lanes.{LaneLists}
-use Rattle.linearization.specs.Orders.{StepBy, step_by}
-use Rattle.linearization.proofs.ListLemmas.{if_same, if_other}
 use Rattle.hop_rule.specs.Boards.{lane_step_in, gate_in}
-use Rattle.hop_rule.specs.Lanes.{lane_changed, lane_after_step, out_after, retired_after}
-use Rattle.hop_rule.specs.declared.step.BoardStep.{BoardStep}
-use Rattle.hop_rule.specs.declared.step.BoardStep.TheVariants.{Lane, Gate, Weighed, Counted}
-use Rattle.hop_rule.specs.declared.step.BoardStep.TheVariants.{LaneOut, LaneIn, OutCounted}
-use Rattle.hop_rule.specs.declared.step.Change.{Change}
-use Rattle.hop_rule.specs.declared.step.GateStep.{GateStep}
-use Rattle.hop_rule.specs.declared.step.LaneStep.{LaneStep}
-use Rattle.hop_rule.specs.declared.step.LaneStep.TheVariants.{Held, Missed, Freed, OutHeld}
-use Rattle.hop_rule.specs.declared.step.LaneStep.TheVariants.{OutMissed, OutFreed, Given, Retired}
+use Rattle.hop_rule.specs.Lanes.{retired_after}
+use Rattle.hop_rule.proofs.Names.{◌≡◌, ◌≢◌, ℕ, ◌+◌, ◌==◌, List, [], ◌∷◌, ◌++◌, if◌then◌else◌, sym}
+use Rattle.hop_rule.proofs.Names.{refl, ap, subst, dite, ℕ_discrete, LaneLists, StepBy, step_by}
+use Rattle.hop_rule.proofs.Names.{if_same, if_other, lane_changed, lane_after_step, out_after}
+use Rattle.hop_rule.proofs.Names.{BoardStep, Lane, Gate, Weighed, Counted, LaneOut, LaneIn}
+use Rattle.hop_rule.proofs.Names.{OutCounted, Change, GateStep, LaneStep, Held, Missed, Freed}
+use Rattle.hop_rule.proofs.Names.{OutHeld, OutMissed, OutFreed, Given, Retired}
 
 -- a choice by two numbers, each way
 pub pick : {A : Type 0} (p q : ℕ) (a b : A) (F : A → Type 0) → (p ≡ q → F a) → (p ≢ q → F b)

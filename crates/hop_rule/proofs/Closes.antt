@@ -1,24 +1,15 @@
 -- A close that did not shut, and a lane that was not found empty behind a close.
-use Rattle.std.proofs.Common.{◌≡◌, inl, inr, ℕ, suc, ◌/◌, ◌%◌, ◌^◌, ◌<◌, ◌≤◌, List, ◌∷◌, length}
-use Rattle.std.proofs.Common.{Option, sym, ap, ◌∙◌, arith}
-use Rattle.std.proofs.lemmas.Bool.{cases_lt}
-use Rattle.linearization.specs.Orders.{StepBy, step_by, steps_of}
-use Rattle.steer_base.specs.declared.put.Put.{Put}
-use Rattle.hop_rule.specs.Boards.{IsLawful, accepted, gates_of, lane_at, lanes_of, retired}
+use Rattle.std.proofs.Common.{◌^◌}
+use Rattle.hop_rule.specs.Boards.{accepted}
 use Rattle.hop_rule.specs.CloseLaws.{BusyLanesHavePackets, FoundVisitsAreOpen}
 use Rattle.hop_rule.specs.Gates as gates
 use Rattle.hop_rule.specs.Lanes as lanes
-use Rattle.hop_rule.specs.Moments.{IsStep, past}
-use Rattle.hop_rule.specs.SettingLaws.{closers}
-use Rattle.hop_rule.specs.Sizes.{closer}
-use Rattle.hop_rule.specs.declared.sizes.BoardSizes.{BoardSizes}
-use Rattle.hop_rule.specs.declared.step.BoardStep.{BoardStep}
-use Rattle.hop_rule.specs.declared.step.BoardStep.TheVariants.{Gate, Lane, Weighed}
-use Rattle.hop_rule.specs.declared.step.Change.{Change}
-use Rattle.hop_rule.specs.declared.step.Change.TheVariants.{Nothing, Offered, Pulled}
-use Rattle.hop_rule.specs.declared.step.GateStep.{GateStep}
-use Rattle.hop_rule.specs.declared.step.GateStep.TheVariants.{NotShut, Opened, Shut}
-use Rattle.hop_rule.specs.declared.step.LaneStep.TheVariants.{Freed}
+use Rattle.hop_rule.proofs.Names.{◌≡◌, inl, inr, ℕ, suc, ◌/◌, ◌%◌, ◌<◌, ◌≤◌, List, ◌∷◌, length}
+use Rattle.hop_rule.proofs.Names.{Option, sym, ap, ◌∙◌, arith, cases_lt, StepBy, step_by, steps_of}
+use Rattle.hop_rule.proofs.Names.{Put, IsLawful, gates_of, lane_at, lanes_of, retired, IsStep, past}
+use Rattle.hop_rule.proofs.Names.{closers, closer, BoardSizes, BoardStep, Gate, Lane, Weighed}
+use Rattle.hop_rule.proofs.Names.{Change, Nothing, Offered, Pulled, GateStep, NotShut, Opened, Shut}
+use Rattle.hop_rule.proofs.Names.{Freed}
 use Rattle.hop_rule.proofs.Boards.{few, gates_past, lawful_past, retired_later, step_lawful}
 use Rattle.hop_rule.proofs.Cases.{lane_case, lane_part_case}
 use Rattle.hop_rule.proofs.GateWords.{gate_word_counts_visits}

@@ -1,24 +1,15 @@
 -- The holder of a lane holds it by its own steps; the settings are those of the closer's own steps.
-use Rattle.std.proofs.Common.{◌≡◌, ◌≢◌, ℕ, suc, ◌==◌, List, [], ◌∷◌, ◌++◌, Option}
-use Rattle.std.proofs.Common.{Some, None, if◌then◌else◌, sym, refl, ap, ◌∙◌, arith}
-use mathlib.Core.Logic.{dite}
-use native.Mathlib.Decide.{ℕ_discrete}
-use Rattle.linearization.specs.Orders.{StepBy, step_by, steps_of}
-use Rattle.linearization.proofs.ViewLemmas.{steps_of_own, steps_of_other}
-use Rattle.linearization.proofs.ListLemmas.{if_same, if_other}
-use Rattle.hop_rule.specs.declared.sizes.BoardSizes.{BoardSizes}
-use Rattle.hop_rule.specs.declared.step.LaneStep.{LaneStep}
-use Rattle.hop_rule.specs.declared.step.LaneStep.TheVariants.{Held, Missed, Freed, OutHeld}
-use Rattle.hop_rule.specs.declared.step.LaneStep.TheVariants.{OutMissed, OutFreed, Given, Retired}
-use Rattle.hop_rule.specs.declared.step.GateStep.{GateStep}
-use Rattle.hop_rule.specs.declared.step.GateStep.TheVariants.{Entered, Turned, Left, Shut, NotShut}
-use Rattle.hop_rule.specs.declared.step.GateStep.TheVariants.{Opened, Set, Read}
-use Rattle.hop_rule.specs.Sizes.{closer}
 use Rattle.hop_rule.specs.Gates as gates
-use Rattle.hop_rule.specs.OutLanes.{OutList, out_list}
-use Rattle.hop_rule.specs.Lanes.{lane_changed, holder, holding, holding_after, lane, out, out_after}
-use Rattle.hop_rule.specs.Lanes.{out_content, out_holder, out_holder_after, out_holding}
-use Rattle.hop_rule.specs.Lanes.{out_holding_after, MayCome, AreLawful}
+use Rattle.hop_rule.specs.OutLanes.{out_list}
+use Rattle.hop_rule.specs.Lanes.{holder, holding, holding_after, out, out_content, out_holder}
+use Rattle.hop_rule.specs.Lanes.{out_holder_after, out_holding, out_holding_after, MayCome}
+use Rattle.hop_rule.proofs.Names.{◌≡◌, ◌≢◌, ℕ, suc, ◌==◌, List, [], ◌∷◌, ◌++◌, Option, Some, None}
+use Rattle.hop_rule.proofs.Names.{if◌then◌else◌, sym, refl, ap, ◌∙◌, arith, dite, ℕ_discrete}
+use Rattle.hop_rule.proofs.Names.{StepBy, step_by, steps_of, steps_of_own, steps_of_other, if_same}
+use Rattle.hop_rule.proofs.Names.{if_other, BoardSizes, LaneStep, Held, Missed, Freed, OutHeld}
+use Rattle.hop_rule.proofs.Names.{OutMissed, OutFreed, Given, Retired, GateStep, Entered, Turned}
+use Rattle.hop_rule.proofs.Names.{Left, Shut, NotShut, Opened, Set, Read, closer, OutList}
+use Rattle.hop_rule.proofs.Names.{lane_changed, lane, out_after, AreLawful}
 use Rattle.hop_rule.proofs.Cases.{pick}
 
 module _ (about : BoardSizes) where

@@ -1,30 +1,16 @@
 -- Deliveries in a lawful order of steps: what comes later has a higher place.
-use Rattle.std.proofs.Common.{◌≡◌, ℕ, zero, suc, ◌+◌, ◌-◌, ◌<◌, ◌≤◌, List, [], ◌∷◌, ◌++◌, length}
-use Rattle.std.proofs.Common.{sym, refl, ap, ◌∙◌, subst, arith, length-append, Option, Some, None}
-use Rattle.std.specs.Prelude.{slice_get}
-use mathlib.Core.Logic.{dite}
-use native.Mathlib.Decide.{ℕ_discrete}
-use Rattle.steer_base.specs.Lanes.{LaneLists}
-use Rattle.steer_base.specs.Drops.{bucket_of, lane_drop_cause}
-use Rattle.steer_base.specs.declared.put.DropCause.{DropCause}
-use Rattle.backlog.specs.Puts.{put_by, after_put}
-use Rattle.linearization.specs.Orders.{StepBy, step_by, steps_of}
-use Rattle.linearization.proofs.ViewLemmas.{steps_of_own}
-use Rattle.linearization.proofs.ListLemmas.{if_same, if_other}
-use Rattle.hop_rule.specs.OutLanes.{OutList}
-use Rattle.hop_rule.specs.declared.sizes.BoardSizes.{BoardSizes}
-use Rattle.hop_rule.specs.declared.step.Change.{Change}
-use Rattle.hop_rule.specs.declared.step.Change.TheVariants.{Nothing, Offered, Pulled}
-use Rattle.hop_rule.specs.declared.step.LaneStep.{LaneStep}
-use Rattle.hop_rule.specs.declared.step.LaneStep.TheVariants.{Held, Missed, Freed, OutHeld}
-use Rattle.hop_rule.specs.declared.step.LaneStep.TheVariants.{OutMissed, OutFreed, Given, Retired}
-use Rattle.hop_rule.specs.Sizes.{puller}
-use Rattle.hop_rule.specs.Lanes.{lane_changed, lane_after_step, out_after, retired, retired_after}
-use Rattle.hop_rule.specs.Lanes.{out, Phase}
-use Rattle.hop_rule.specs.Lanes.{idle, has_pulled, gave, phase_after, phase, lane, MayCome}
-use Rattle.hop_rule.specs.Lanes.{AreLawful}
-use Rattle.hop_rule.specs.Deliveries.{Delivery, delivery, given_after, delivered_from}
-use Rattle.hop_rule.specs.Moments.{nth_step}
+use Rattle.hop_rule.specs.Lanes.{retired, retired_after, out, Phase, idle, has_pulled, gave}
+use Rattle.hop_rule.specs.Lanes.{phase_after, phase, MayCome}
+use Rattle.hop_rule.specs.Deliveries.{given_after}
+use Rattle.hop_rule.proofs.Names.{◌≡◌, ℕ, zero, suc, ◌+◌, ◌-◌, ◌<◌, ◌≤◌, List, [], ◌∷◌, ◌++◌}
+use Rattle.hop_rule.proofs.Names.{length, sym, refl, ap, ◌∙◌, subst, arith, length-append, Option}
+use Rattle.hop_rule.proofs.Names.{Some, None, slice_get, dite, ℕ_discrete, LaneLists, bucket_of}
+use Rattle.hop_rule.proofs.Names.{lane_drop_cause, DropCause, put_by, after_put, StepBy, step_by}
+use Rattle.hop_rule.proofs.Names.{steps_of, steps_of_own, if_same, if_other, OutList, BoardSizes}
+use Rattle.hop_rule.proofs.Names.{Change, Nothing, Offered, Pulled, LaneStep, Held, Missed, Freed}
+use Rattle.hop_rule.proofs.Names.{OutHeld, OutMissed, OutFreed, Given, Retired, puller}
+use Rattle.hop_rule.proofs.Names.{lane_changed, lane_after_step, out_after, lane, AreLawful}
+use Rattle.hop_rule.proofs.Names.{Delivery, delivery, delivered_from, nth_step}
 use Rattle.hop_rule.proofs.Moments.{nth-inside, nth-old, nth-some}
 use Rattle.hop_rule.proofs.Cases.{pick}
 use Rattle.hop_rule.proofs.Lists.{some-is, none-some, get-inside}

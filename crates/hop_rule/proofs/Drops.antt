@@ -1,28 +1,20 @@
 -- The drops of a lane: their counts rise, and the offers explain them.
-use Rattle.std.proofs.Common.{◌≡◌, ℕ, ◌+◌, ◌≤◌, Bool, true, false, List, length, Option}
-use Rattle.std.proofs.Common.{Some, sym, refl, ap, ◌∙◌, subst}
+use Rattle.std.proofs.Common.{Bool, true}
 use Rattle.std.specs.Prelude.{nat_lt, if◌then◌else◌}
 use Rattle.std.proofs.lemmas.Bool.{lt-ltb}
-use Rattle.steer_base.specs.Drops.{lane_drop_cause}
-use Rattle.steer_base.specs.Lanes.{LaneLists}
 use Rattle.steer_base.specs.Sets.{has}
-use Rattle.steer_base.specs.declared.put.Put.{Put}
 use Rattle.backlog.specs.Offers.{AllExplained, AreOffers}
-use Rattle.backlog.specs.Puts.{after_put, after_take, new_lane, next_waiting}
+use Rattle.backlog.specs.Puts.{after_take, new_lane, next_waiting}
 use Rattle.backlog.specs.Rising.{AreRising}
 use Rattle.backlog.proofs.ExplainedLemmas.{AllExplained-put, AllExplained-take, AreOffers-put}
 use Rattle.backlog.proofs.RisingLemmas.{AreRising-new, AreRising-put, AreRising-take}
-use Rattle.linearization.specs.Orders.{StepBy}
-use Rattle.hop_rule.specs.Boards.{IsLawful, lane_at, lanes_of}
 use Rattle.hop_rule.specs.Lanes as lanes
-use Rattle.hop_rule.specs.Moments.{past, IsStep}
-use Rattle.hop_rule.specs.PutLaws.{IsPut, lane_then, DropCountsRise, DropsAreExplained}
-use Rattle.hop_rule.specs.declared.sizes.BoardSizes.{BoardSizes}
-use Rattle.hop_rule.specs.declared.step.BoardStep.{BoardStep}
-use Rattle.hop_rule.specs.declared.step.BoardStep.TheVariants.{Lane}
-use Rattle.hop_rule.specs.declared.step.Change.{Change}
-use Rattle.hop_rule.specs.declared.step.Change.TheVariants.{Nothing, Offered, Pulled}
-use Rattle.hop_rule.specs.declared.step.LaneStep.TheVariants.{Freed}
+use Rattle.hop_rule.specs.PutLaws.{DropCountsRise, DropsAreExplained}
+use Rattle.hop_rule.proofs.Names.{◌≡◌, ℕ, ◌+◌, ◌≤◌, false, List, length, Option, Some, sym, refl}
+use Rattle.hop_rule.proofs.Names.{ap, ◌∙◌, subst, lane_drop_cause, LaneLists, Put, after_put}
+use Rattle.hop_rule.proofs.Names.{StepBy, IsLawful, lane_at, lanes_of, past, IsStep, IsPut}
+use Rattle.hop_rule.proofs.Names.{lane_then, BoardSizes, BoardStep, Lane, Change, Nothing, Offered}
+use Rattle.hop_rule.proofs.Names.{Pulled, Freed}
 use Rattle.hop_rule.proofs.Boards.{lanes_past, step_lawful}
 use Rattle.hop_rule.proofs.Lanes.{holds}
 use Rattle.hop_rule.proofs.Lists.{get-inside}

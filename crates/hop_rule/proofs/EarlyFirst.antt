@@ -1,26 +1,18 @@
 -- What lay in a lane that was found empty stands below what is put after the next opening.
-use Rattle.std.proofs.Common.{◌≡◌, ◌⊎◌, inl, inr, ℕ, suc, ◌+◌, ◌/◌, ◌%◌, ◌^◌, ◌<◌, ◌≤◌}
-use Rattle.std.proofs.Common.{List, ◌∷◌, length, sym, ap, ◌∙◌, refl, subst, arith}
-use Rattle.std.proofs.lemmas.Bool.{cases_lt}
-use Rattle.linearization.specs.Orders.{StepBy, step_by}
-use Rattle.hop_rule.specs.Boards.{gates_of, lanes_of, lane_at, IsLawful, retired}
-use Rattle.hop_rule.specs.Deliveries.{Delivery}
+use Rattle.std.proofs.Common.{◌^◌}
 use Rattle.hop_rule.specs.Emptied.{WasEmptied}
 use Rattle.hop_rule.specs.Gates as gates
 use Rattle.hop_rule.specs.Lanes as lanes
-use Rattle.hop_rule.specs.Moments.{past, IsStep}
-use Rattle.hop_rule.specs.PutLaws.{WasPut, lane_then}
+use Rattle.hop_rule.specs.PutLaws.{WasPut}
 use Rattle.hop_rule.specs.SettingLaws.{EarlyStandsFirst, EmptiedLanesStandFirst, HeadsAreBelowTails}
 use Rattle.hop_rule.specs.SettingLaws.{put_visit}
-use Rattle.hop_rule.specs.Sizes.{FitSizes, closer}
-use Rattle.hop_rule.specs.declared.sizes.BoardSizes.{BoardSizes}
-use Rattle.hop_rule.specs.declared.step.BoardStep.{BoardStep}
-use Rattle.hop_rule.specs.declared.step.BoardStep.TheVariants.{Lane, Gate, Weighed, Counted}
-use Rattle.hop_rule.specs.declared.step.Change.TheVariants.{Offered}
-use Rattle.hop_rule.specs.declared.step.GateStep.{GateStep}
-use Rattle.hop_rule.specs.declared.step.GateStep.TheVariants.{Entered, Turned, Left, Shut, NotShut}
-use Rattle.hop_rule.specs.declared.step.GateStep.TheVariants.{Opened, Set, Read}
-use Rattle.hop_rule.specs.declared.step.LaneStep.TheVariants.{Freed}
+use Rattle.hop_rule.specs.Sizes.{FitSizes}
+use Rattle.hop_rule.proofs.Names.{◌≡◌, ◌⊎◌, inl, inr, ℕ, suc, ◌+◌, ◌/◌, ◌%◌, ◌<◌, ◌≤◌, List, ◌∷◌}
+use Rattle.hop_rule.proofs.Names.{length, sym, ap, ◌∙◌, refl, subst, arith, cases_lt, StepBy}
+use Rattle.hop_rule.proofs.Names.{step_by, gates_of, lanes_of, lane_at, IsLawful, retired, Delivery}
+use Rattle.hop_rule.proofs.Names.{past, IsStep, lane_then, closer, BoardSizes, BoardStep, Lane}
+use Rattle.hop_rule.proofs.Names.{Gate, Weighed, Counted, Offered, GateStep, Entered, Turned, Left}
+use Rattle.hop_rule.proofs.Names.{Shut, NotShut, Opened, Set, Read, Freed}
 use Rattle.hop_rule.proofs.Boards.{gates_past, lawful_past, step_lawful, retired_later, few}
 use Rattle.hop_rule.proofs.Cases.{gate_part_case}
 use Rattle.hop_rule.proofs.Fronts.{count_later}

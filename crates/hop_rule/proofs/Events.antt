@@ -1,43 +1,30 @@
 -- Each step of a lawful order is one event of the bare hop, or leaves it.
-use Rattle.std.proofs.Common.{◌≡◌, ◌≢◌, ℕ, zero, suc, ◌+◌, ◌-◌, ◌<◌, ◌≤◌, false, List}
-use Rattle.std.proofs.Common.{[], ◌∷◌, ◌++◌, Option, Some, None, length, map, get_or, set, sym}
-use Rattle.std.proofs.Common.{refl, ap, ◌∙◌, subst, arith}
-use Rattle.std.specs.Prelude.{nat_lt, slice_get, slice_index, replicate}
+use Rattle.std.proofs.Common.{map, set}
+use Rattle.std.specs.Prelude.{nat_lt, slice_index, replicate}
 use Rattle.std.specs.List.{range_with_len}
-use mathlib.Core.Logic.{dite}
-use native.Mathlib.Decide.{ℕ_discrete}
-use Rattle.steer_base.specs.Lanes.{LaneLists}
-use Rattle.steer_base.specs.Drops.{bucket_of, lane_drop_cause}
 use Rattle.steer_base.specs.Sets.{has}
-use Rattle.steer_base.specs.declared.put.DropCause.{DropCause}
 use Rattle.steer_base.specs.declared.put.LaneDrop.{LaneDrop}
-use Rattle.backlog.specs.Puts.{put_by, after_put, new_lane}
-use Rattle.linearization.specs.Orders.{StepBy, step_by, steps_of}
-use Rattle.linearization.proofs.ViewLemmas.{steps_of_own, steps_of_other}
-use Rattle.linearization.proofs.ListLemmas.{if_same, if_other}
-use Rattle.hop_rule.specs.declared.sizes.BoardSizes.{BoardSizes}
-use Rattle.hop_rule.specs.declared.step.BoardStep.{BoardStep}
-use Rattle.hop_rule.specs.declared.step.BoardStep.TheVariants.{Lane, Gate, Weighed, Counted}
-use Rattle.hop_rule.specs.declared.step.BoardStep.TheVariants.{LaneOut, LaneIn, OutCounted}
-use Rattle.hop_rule.specs.declared.step.Change.{Change}
-use Rattle.hop_rule.specs.declared.step.Change.TheVariants.{Nothing, Offered, Pulled}
-use Rattle.hop_rule.specs.declared.step.LaneStep.{LaneStep}
-use Rattle.hop_rule.specs.declared.step.LaneStep.TheVariants.{Held, Missed, Freed, OutHeld}
-use Rattle.hop_rule.specs.declared.step.LaneStep.TheVariants.{OutMissed, OutFreed, Given, Retired}
-use Rattle.hop_rule.specs.declared.step.GateStep.{GateStep}
-use Rattle.hop_rule.specs.declared.step.GateStep.TheVariants.{Entered, Turned, Left, Shut, NotShut}
-use Rattle.hop_rule.specs.declared.step.GateStep.TheVariants.{Opened, Set, Read}
+use Rattle.backlog.specs.Puts.{new_lane}
 use Rattle.hop_model.specs.Hop.{Bare, accepted_at, pulled_at}
 use Rattle.hop_model.specs.Hop.{delivered_at, retired_at, next_out, lane_of, landed}
 use Rattle.hop_model.specs.BareEvents.{MayBe, bare_after}
-use Rattle.hop_rule.specs.Deliveries.{Delivery, delivery, delivered_from}
-use Rattle.hop_rule.specs.Sizes.{puller}
 use Rattle.hop_rule.specs.Lanes as lanes
 use Rattle.hop_rule.specs.Gates as gates
-use Rattle.hop_rule.specs.Boards.{lanes_of, gates_of, IsLawful, visit_of}
+use Rattle.hop_rule.specs.Boards.{visit_of}
 use Rattle.hop_rule.specs.Events as events
-use Rattle.hop_rule.specs.Events.{sum_below, is_in, fixed, inside_count, bare, step_event}
-use Rattle.hop_rule.specs.Events.{BeginsFresh, EachStepIsAnEvent}
+use Rattle.hop_rule.specs.Events.{is_in, fixed, inside_count, bare, step_event, BeginsFresh}
+use Rattle.hop_rule.specs.Events.{EachStepIsAnEvent}
+use Rattle.hop_rule.proofs.Names.{◌≡◌, ◌≢◌, ℕ, zero, suc, ◌+◌, ◌-◌, ◌<◌, ◌≤◌, false, List, [], ◌∷◌}
+use Rattle.hop_rule.proofs.Names.{◌++◌, Option, Some, None, length, get_or, sym, refl, ap, ◌∙◌}
+use Rattle.hop_rule.proofs.Names.{subst, arith, slice_get, dite, ℕ_discrete, LaneLists, bucket_of}
+use Rattle.hop_rule.proofs.Names.{lane_drop_cause, DropCause, put_by, after_put, StepBy, step_by}
+use Rattle.hop_rule.proofs.Names.{steps_of, steps_of_own, steps_of_other, if_same, if_other}
+use Rattle.hop_rule.proofs.Names.{BoardSizes, BoardStep, Lane, Gate, Weighed, Counted, LaneOut}
+use Rattle.hop_rule.proofs.Names.{LaneIn, OutCounted, Change, Nothing, Offered, Pulled, LaneStep}
+use Rattle.hop_rule.proofs.Names.{Held, Missed, Freed, OutHeld, OutMissed, OutFreed, Given, Retired}
+use Rattle.hop_rule.proofs.Names.{GateStep, Entered, Turned, Left, Shut, NotShut, Opened, Set, Read}
+use Rattle.hop_rule.proofs.Names.{Delivery, delivery, delivered_from, puller, lanes_of, gates_of}
+use Rattle.hop_rule.proofs.Names.{IsLawful, sum_below}
 use Rattle.hop_rule.proofs.Lists.{get-inside}
 use Rattle.hop_rule.proofs.Lanes.{holds, counted, out_of_hand}
 use Rattle.hop_rule.proofs.Deliveries.{facts, gone, waiting, Waits}

@@ -1,22 +1,12 @@
 -- Lists only grow: what was found of a lane is a front of what is left.
-use Rattle.std.proofs.Common.{◌≡◌, ℕ, zero, suc, ◌≤◌, List, [], ◌∷◌, ◌++◌, length, Option}
-use Rattle.std.proofs.Common.{Some, None, sym, refl, ap, ◌∙◌, subst, arith, append_assoc}
-use Rattle.std.proofs.Common.{append-nil, length-append}
-use Rattle.std.specs.Prelude.{slice_get}
-use Rattle.steer_base.specs.Drops.{bucket_of, lane_drop_cause}
-use Rattle.steer_base.specs.Lanes.{LaneLists}
-use Rattle.steer_base.specs.declared.put.DropCause.{DropCause}
-use Rattle.backlog.specs.Puts.{put_by, after_put}
-use Rattle.linearization.specs.Orders.{StepBy}
-use Rattle.hop_rule.specs.Boards.{lane_at, lanes_of, out}
+use Rattle.std.proofs.Common.{append_assoc, append-nil}
 use Rattle.hop_rule.specs.Fronts.{Front, IsEarlier}
 use Rattle.hop_rule.specs.Lanes as lanes
-use Rattle.hop_rule.specs.Moments.{past}
-use Rattle.hop_rule.specs.declared.sizes.BoardSizes.{BoardSizes}
-use Rattle.hop_rule.specs.declared.step.BoardStep.{BoardStep}
-use Rattle.hop_rule.specs.declared.step.Change.{Change}
-use Rattle.hop_rule.specs.declared.step.Change.TheVariants.{Nothing, Offered, Pulled}
-use Rattle.hop_rule.specs.declared.step.LaneStep.{LaneStep}
+use Rattle.hop_rule.proofs.Names.{◌≡◌, ℕ, zero, suc, ◌≤◌, List, [], ◌∷◌, ◌++◌, length, Option, Some}
+use Rattle.hop_rule.proofs.Names.{None, sym, refl, ap, ◌∙◌, subst, arith, length-append, slice_get}
+use Rattle.hop_rule.proofs.Names.{bucket_of, lane_drop_cause, LaneLists, DropCause, put_by}
+use Rattle.hop_rule.proofs.Names.{after_put, StepBy, lane_at, lanes_of, out, past, BoardSizes}
+use Rattle.hop_rule.proofs.Names.{BoardStep, Change, Nothing, Offered, Pulled, LaneStep}
 use Rattle.hop_rule.proofs.Boards.{lanes_more}
 use Rattle.hop_rule.proofs.Lists.{none-some}
 use Rattle.hop_rule.proofs.Cases.{lane_case, out_case}

@@ -1,12 +1,8 @@
 -- The gate's word by the seats' own lists.
-use Rattle.std.proofs.Common.{◌≡◌, List, sym, ap, ◌∙◌, arith}
-use Rattle.linearization.specs.Orders.{StepBy, steps_of}
-use Rattle.hop_rule.specs.Boards.{gates_of}
-use Rattle.hop_rule.specs.Events.{sum_below}
 use Rattle.hop_rule.specs.Gates as gates
-use Rattle.hop_rule.specs.SettingLaws.{GateWordCountsVisits, open_visits, closers}
-use Rattle.hop_rule.specs.Sizes.{closer}
-use Rattle.hop_rule.specs.declared.step.GateStep.{GateStep}
+use Rattle.hop_rule.specs.SettingLaws.{GateWordCountsVisits, open_visits}
+use Rattle.hop_rule.proofs.Names.{◌≡◌, List, sym, ap, ◌∙◌, arith, StepBy, steps_of, gates_of}
+use Rattle.hop_rule.proofs.Names.{sum_below, closers, closer, GateStep}
 use Rattle.hop_rule.proofs.Boards.{parts}
 use Rattle.hop_rule.proofs.Gates.{closes, open_small, shut_out, small, sum_most, unshut, word}
 use Rattle.hop_rule.proofs.Owns.{gates_own}

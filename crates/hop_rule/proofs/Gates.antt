@@ -1,21 +1,15 @@
 -- Laws of the gate.
-use Rattle.std.proofs.Common.{◌≡◌, ◌≢◌, ◌⊎◌, inl, inr, ℕ, zero, suc, ◌+◌, ◌*◌, ◌%◌, ◌/◌, ◌<◌, ◌≤◌}
-use Rattle.std.proofs.Common.{List, [], ◌∷◌, ◌++◌, sym, refl, ap, ◌∙◌, subst, arith}
-use mathlib.Core.Logic.{dite}
-use native.Mathlib.Decide.{ℕ_discrete}
-use Rattle.linearization.specs.Orders.{StepBy, step_by, steps_of}
-use Rattle.linearization.proofs.ViewLemmas.{steps_of_own, steps_of_other}
-use Rattle.hop_rule.specs.declared.sizes.BoardSizes.{BoardSizes}
+use Rattle.std.proofs.Common.{◌*◌}
 use Rattle.hop_rule.specs.declared.sizes.TheConstants.{MAX_OPENINGS}
-use Rattle.hop_rule.specs.declared.step.GateStep.{GateStep}
-use Rattle.hop_rule.specs.declared.step.GateStep.TheVariants.{Entered, Turned, Left, Shut, NotShut}
-use Rattle.hop_rule.specs.declared.step.GateStep.TheVariants.{Opened, Set, Read}
-use Rattle.hop_rule.specs.Events.{sum_below}
-use Rattle.hop_rule.specs.Sizes.{closer}
 use Rattle.hop_rule.specs.Gates.{Visit, outside, inside, backing, visit_after, visit, is_open}
 use Rattle.hop_rule.specs.Gates.{closed_after, openings_after, closed, openings, found_after, found}
 use Rattle.hop_rule.specs.Gates.{all_closed, all_openings, visits_after, visits, gate_word}
 use Rattle.hop_rule.specs.Gates.{settings_after, settings, MayCome, AreLawful}
+use Rattle.hop_rule.proofs.Names.{◌≡◌, ◌≢◌, ◌⊎◌, inl, inr, ℕ, zero, suc, ◌+◌, ◌%◌, ◌/◌, ◌<◌, ◌≤◌}
+use Rattle.hop_rule.proofs.Names.{List, [], ◌∷◌, ◌++◌, sym, refl, ap, ◌∙◌, subst, arith, dite}
+use Rattle.hop_rule.proofs.Names.{ℕ_discrete, StepBy, step_by, steps_of, steps_of_own}
+use Rattle.hop_rule.proofs.Names.{steps_of_other, BoardSizes, GateStep, Entered, Turned, Left, Shut}
+use Rattle.hop_rule.proofs.Names.{NotShut, Opened, Set, Read, sum_below, closer}
 
 own_step : (p : ℕ) (e : StepBy GateStep) (es : List (StepBy GateStep)) → e.by ≡ p
     → steps_of p (e ∷ es) ≡ e.step ∷ steps_of p es

@@ -1,21 +1,13 @@
 -- Heads follow deliveries; what a loaded head counts was passed.
-use Rattle.std.proofs.Common.{◌≡◌, ℕ, ◌+◌, ◌<◌, ◌≤◌, List, ◌++◌, length, Some, sym, ap, ◌∙◌}
-use Rattle.std.proofs.Common.{subst, arith}
 use Rattle.backlog.specs.Puts.{put_count}
-use Rattle.linearization.specs.Orders.{StepBy, steps_of}
-use Rattle.hop_rule.specs.Boards.{IsLawful, lane_at, lanes_of, retired}
-use Rattle.hop_rule.specs.Deliveries.{Delivery, delivered_from}
 use Rattle.hop_rule.specs.LaneLaws.{AreInTurn, HeadsFollowDeliveries, EachRetireFollows}
 use Rattle.hop_rule.specs.Lanes as lanes
-use Rattle.hop_rule.specs.Moments.{past, nth_step}
-use Rattle.hop_rule.specs.PutLaws.{lane_then, DeliveredAsAccepted, DeliveredInOrder}
-use Rattle.hop_rule.specs.PutLaws.{LoadedHeadsAreRetires, LoadedHeadsArePassed}
-use Rattle.hop_rule.specs.Sizes.{puller}
-use Rattle.hop_rule.specs.declared.sizes.BoardSizes.{BoardSizes}
-use Rattle.hop_rule.specs.declared.step.BoardStep.{BoardStep}
-use Rattle.hop_rule.specs.declared.step.BoardStep.TheVariants.{Lane, Weighed}
-use Rattle.hop_rule.specs.declared.step.LaneStep.{LaneStep}
-use Rattle.hop_rule.specs.declared.step.LaneStep.TheVariants.{Retired}
+use Rattle.hop_rule.specs.PutLaws.{DeliveredAsAccepted, DeliveredInOrder, LoadedHeadsAreRetires}
+use Rattle.hop_rule.specs.PutLaws.{LoadedHeadsArePassed}
+use Rattle.hop_rule.proofs.Names.{◌≡◌, ℕ, ◌+◌, ◌<◌, ◌≤◌, List, ◌++◌, length, Some, sym, ap, ◌∙◌}
+use Rattle.hop_rule.proofs.Names.{subst, arith, StepBy, steps_of, IsLawful, lane_at, lanes_of}
+use Rattle.hop_rule.proofs.Names.{retired, Delivery, delivered_from, past, nth_step, lane_then}
+use Rattle.hop_rule.proofs.Names.{puller, BoardSizes, BoardStep, Lane, Weighed, LaneStep, Retired}
 use Rattle.hop_rule.proofs.Boards.{parts, lanes_past, step_lawful, lanes_more, retired_later}
 use Rattle.hop_rule.proofs.Deliveries.{facts, gone, ids_at, passing, rises, same_lane}
 use Rattle.hop_rule.proofs.Fronts.{count_later}

@@ -1,25 +1,17 @@
 -- Who holds a lane, by the seats' own lists, by the lane's word and by its slot.
-use Rattle.std.proofs.Common.{◌≡◌, ◌≢◌, ℕ, zero, suc, ◌+◌, ◌*◌, ◌%◌, ◌<◌, List, [], ◌∷◌, length}
-use Rattle.std.proofs.Common.{Some, None, sym, refl, ap, ◌∙◌, arith}
-use mathlib.Core.Logic.{dite}
-use native.Mathlib.Decide.{ℕ_discrete}
-use Rattle.steer_base.specs.Lanes.{LaneLists}
-use Rattle.linearization.specs.Orders.{StepBy}
-use Rattle.linearization.proofs.ListLemmas.{if_same, if_other}
-use Rattle.hop_rule.specs.Boards.{MayCome, IsLawful, full, taken, empty, SlotState, lane_at}
-use Rattle.hop_rule.specs.Boards.{lane_steps, lanes_of, out, out_slot, own_state, slot_state}
+use Rattle.std.proofs.Common.{◌*◌}
+use Rattle.hop_rule.specs.Boards.{full, taken, empty, SlotState, lane_steps, out_slot, own_state}
+use Rattle.hop_rule.specs.Boards.{slot_state}
 use Rattle.hop_rule.specs.LaneLaws.{HoldsByOwnSteps, OutHolds, IsHeldByOne, IsOutHeldByOne}
 use Rattle.hop_rule.specs.LaneLaws.{MiddleLanesAreHeldByOne, OutLanesAreHeldByOne}
 use Rattle.hop_rule.specs.Lanes as lanes
-use Rattle.hop_rule.specs.OutLanes.{OutList}
 use Rattle.hop_rule.specs.Owns.{own_of}
-use Rattle.hop_rule.specs.declared.sizes.BoardSizes.{BoardSizes}
-use Rattle.hop_rule.specs.declared.step.BoardStep.{BoardStep}
-use Rattle.hop_rule.specs.declared.step.BoardStep.TheVariants.{Lane, Gate, Weighed, Counted}
-use Rattle.hop_rule.specs.declared.step.BoardStep.TheVariants.{LaneOut, LaneIn, OutCounted}
-use Rattle.hop_rule.specs.declared.step.LaneStep.{LaneStep}
-use Rattle.hop_rule.specs.declared.step.LaneStep.TheVariants.{Held, Missed, Freed, OutHeld}
-use Rattle.hop_rule.specs.declared.step.LaneStep.TheVariants.{OutMissed, OutFreed, Given, Retired}
+use Rattle.hop_rule.proofs.Names.{◌≡◌, ◌≢◌, ℕ, zero, suc, ◌+◌, ◌%◌, ◌<◌, List, [], ◌∷◌, length}
+use Rattle.hop_rule.proofs.Names.{Some, None, sym, refl, ap, ◌∙◌, arith, dite, ℕ_discrete}
+use Rattle.hop_rule.proofs.Names.{LaneLists, StepBy, if_same, if_other, MayCome, IsLawful, lane_at}
+use Rattle.hop_rule.proofs.Names.{lanes_of, out, OutList, BoardSizes, BoardStep, Lane, Gate}
+use Rattle.hop_rule.proofs.Names.{Weighed, Counted, LaneOut, LaneIn, OutCounted, LaneStep, Held}
+use Rattle.hop_rule.proofs.Names.{Missed, Freed, OutHeld, OutMissed, OutFreed, Given, Retired}
 use Rattle.hop_rule.proofs.Boards.{parts}
 use Rattle.hop_rule.proofs.Cases.{pick}
 use Rattle.hop_rule.proofs.Closings.{held_is, out_held_is}

@@ -1,31 +1,20 @@
 -- Laws of every lawful order of steps at lanes.
-use Rattle.std.proofs.Common.{◌≡◌, ◌≢◌, ℕ, suc, ◌+◌, ◌<◌, ◌≤◌, ◌==◌, List, [], ◌∷◌, ◌++◌}
-use Rattle.std.proofs.Common.{length, if◌then◌else◌, sym, refl, ap, ◌∙◌, subst, arith}
-use Rattle.std.proofs.Common.{length-append, Option, Some, None}
-use mathlib.Core.Logic.{dite}
-use native.Mathlib.Decide.{ℕ_discrete}
-use Rattle.steer_base.specs.Lanes.{LaneLists}
-use Rattle.steer_base.specs.Drops.{bucket_of, lane_drop_cause}
-use Rattle.steer_base.specs.declared.put.DropCause.{DropCause}
-use Rattle.backlog.specs.Puts.{put_by, after_put, put_count}
-use Rattle.linearization.specs.Orders.{StepBy, step_by, steps_of}
-use Rattle.linearization.proofs.ViewLemmas.{steps_of_own, steps_of_other}
-use Rattle.linearization.proofs.ListLemmas.{if_same, if_other}
+use Rattle.backlog.specs.Puts.{put_count}
+use Rattle.hop_rule.proofs.Names.{◌≡◌, ◌≢◌, ℕ, suc, ◌+◌, ◌<◌, ◌≤◌, ◌==◌, List, [], ◌∷◌, ◌++◌}
+use Rattle.hop_rule.proofs.Names.{length, if◌then◌else◌, sym, refl, ap, ◌∙◌, subst, arith}
+use Rattle.hop_rule.proofs.Names.{length-append, Option, Some, None, dite, ℕ_discrete, LaneLists}
+use Rattle.hop_rule.proofs.Names.{bucket_of, lane_drop_cause, DropCause, put_by, after_put, StepBy}
+use Rattle.hop_rule.proofs.Names.{step_by, steps_of, steps_of_own, steps_of_other, if_same}
+use Rattle.hop_rule.proofs.Names.{if_other, OutList, BoardSizes, Nothing, Offered, Pulled, LaneStep}
+use Rattle.hop_rule.proofs.Names.{Held, Missed, Freed, OutHeld, OutMissed, OutFreed, Given, Retired}
+use Rattle.hop_rule.proofs.Names.{puller, lane_changed, lane_after_step, out_after, lane, AreLawful}
 use Rattle.hop_rule.proofs.Cases.{pick}
 use Rattle.hop_rule.proofs.Lists.{some-is, none-some, get-inside}
-use Rattle.hop_rule.specs.OutLanes.{OutList, out_list}
-use Rattle.hop_rule.specs.declared.sizes.BoardSizes.{BoardSizes}
-use Rattle.hop_rule.specs.declared.step.Change.TheVariants.{Nothing, Offered, Pulled}
-use Rattle.hop_rule.specs.declared.step.LaneStep.{LaneStep}
-use Rattle.hop_rule.specs.declared.step.LaneStep.TheVariants.{Held, Missed, Freed, OutHeld}
-use Rattle.hop_rule.specs.declared.step.LaneStep.TheVariants.{OutMissed, OutFreed, Given, Retired}
-use Rattle.hop_rule.specs.Sizes.{puller}
-use Rattle.hop_rule.specs.Lanes.{lane_changed, lane_after_step, out_after, holder_after}
-use Rattle.hop_rule.specs.Lanes.{out_holder_after}
-use Rattle.hop_rule.specs.Lanes.{holder, out_holder, retired, out, holding_after, holding}
-use Rattle.hop_rule.specs.Lanes.{out_holding_after, out_holding, Phase, idle, has_pulled, gave}
-use Rattle.hop_rule.specs.Lanes.{phase_after, phase, lane, out_content, FitsChange, MayCome}
-use Rattle.hop_rule.specs.Lanes.{AreLawful}
+use Rattle.hop_rule.specs.OutLanes.{out_list}
+use Rattle.hop_rule.specs.Lanes.{holder_after, out_holder_after, holder, out_holder, retired, out}
+use Rattle.hop_rule.specs.Lanes.{holding_after, holding, out_holding_after, out_holding, Phase}
+use Rattle.hop_rule.specs.Lanes.{idle, has_pulled, gave, phase_after, phase, out_content}
+use Rattle.hop_rule.specs.Lanes.{FitsChange, MayCome}
 
 module _ (about : BoardSizes) where
   abbrev Order : Type 0

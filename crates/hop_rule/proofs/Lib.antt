@@ -16,6 +16,7 @@ pub mod Lanes
 pub mod Lists
 pub mod Members
 pub mod Moments
+pub mod Names
 pub mod Numbers
 pub mod Openings
 pub mod OwnMoments

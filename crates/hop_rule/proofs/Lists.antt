@@ -1,8 +1,7 @@
 -- Options, and members of lists.
-use Rattle.std.proofs.Common.{◌≡◌, ℕ, zero, suc, ◌<◌, List, [], ◌∷◌, length, ap, arith}
-use Rattle.std.proofs.Common.{Some, None, get_or}
 use Rattle.std.specs.Option.{unwrap_or}
-use Rattle.std.specs.Prelude.{slice_get}
+use Rattle.hop_rule.proofs.Names.{◌≡◌, ℕ, zero, suc, ◌<◌, List, [], ◌∷◌, length, ap, arith, Some}
+use Rattle.hop_rule.proofs.Names.{None, get_or, slice_get}
 
 pub some-is : {A : Type 0} (x y : A) → Some x ≡ Some y → x ≡ y
 some-is x y e = ap (λ o. unwrap_or o x) e

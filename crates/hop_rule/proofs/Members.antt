@@ -1,22 +1,12 @@
 -- Deliveries as steps of the order, and the members of an out lane.
-use Rattle.std.proofs.Common.{◌≡◌, ◌⊎◌, inl, inr, ℕ, zero, suc, ◌+◌, ◌<◌, List, [], ◌∷◌, ◌++◌}
-use Rattle.std.proofs.Common.{length, sym, refl, ap, ◌∙◌, subst, arith, Some}
-use Rattle.std.specs.Prelude.{slice_get}
-use Rattle.linearization.specs.Orders.{StepBy, step_by}
-use Rattle.linearization.proofs.ListLemmas.{if_same}
-use Rattle.hop_rule.specs.declared.sizes.BoardSizes.{BoardSizes}
-use Rattle.hop_rule.specs.declared.step.BoardStep.{BoardStep}
-use Rattle.hop_rule.specs.declared.step.BoardStep.TheVariants.{Lane, Gate, Weighed, Counted}
-use Rattle.hop_rule.specs.declared.step.BoardStep.TheVariants.{LaneOut, LaneIn, OutCounted}
-use Rattle.hop_rule.specs.declared.step.LaneStep.{LaneStep}
-use Rattle.hop_rule.specs.declared.step.LaneStep.TheVariants.{Held, Missed, Freed, OutHeld}
-use Rattle.hop_rule.specs.declared.step.LaneStep.TheVariants.{OutMissed, OutFreed, Given, Retired}
 use Rattle.hop_rule.specs.Lanes as lanes
-use Rattle.hop_rule.specs.OutLanes.{OutList}
-use Rattle.hop_rule.specs.Boards.{lanes_of}
-use Rattle.hop_rule.specs.Deliveries.{Delivery, delivery, given_after, delivered_from}
-use Rattle.hop_rule.specs.Moments.{nth_step}
-use Rattle.hop_rule.specs.Moments.{IsStep}
+use Rattle.hop_rule.specs.Deliveries.{given_after}
+use Rattle.hop_rule.proofs.Names.{◌≡◌, ◌⊎◌, inl, inr, ℕ, zero, suc, ◌+◌, ◌<◌, List, [], ◌∷◌, ◌++◌}
+use Rattle.hop_rule.proofs.Names.{length, sym, refl, ap, ◌∙◌, subst, arith, Some, slice_get, StepBy}
+use Rattle.hop_rule.proofs.Names.{step_by, if_same, BoardSizes, BoardStep, Lane, Gate, Weighed}
+use Rattle.hop_rule.proofs.Names.{Counted, LaneOut, LaneIn, OutCounted, LaneStep, Held, Missed}
+use Rattle.hop_rule.proofs.Names.{Freed, OutHeld, OutMissed, OutFreed, Given, Retired, OutList}
+use Rattle.hop_rule.proofs.Names.{lanes_of, Delivery, delivery, delivered_from, nth_step, IsStep}
 use Rattle.hop_rule.proofs.Cases.{pick, lane_part}
 use Rattle.hop_rule.proofs.Lists.{some-is, none-some}
 use Rattle.hop_rule.proofs.Lanes.{out_holds}

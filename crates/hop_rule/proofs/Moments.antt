@@ -1,15 +1,9 @@
 -- Moments of an order.
-use Rattle.std.proofs.Common.{◌≡◌, ◌⊎◌, inl, inr, ℕ, zero, suc, ◌-◌, ◌<◌, ◌≤◌, List, [], ◌∷◌}
-use Rattle.std.proofs.Common.{◌++◌, get_or}
-use Rattle.std.proofs.Common.{Some, length, drop, refl, sym, ap, ◌∙◌, subst, arith}
-use Rattle.std.proofs.Common.{length-append}
-use Rattle.std.proofs.lemmas.Bool.{cases_eq, cases_lt}
-use mathlib.Core.Logic.{dite}
-use native.Mathlib.Decide.{ℕ_discrete}
-use Rattle.linearization.specs.Orders.{StepBy, step_by}
-use Rattle.linearization.proofs.ListLemmas.{if_same, if_other}
+use Rattle.hop_rule.proofs.Names.{◌≡◌, ◌⊎◌, inl, inr, ℕ, zero, suc, ◌-◌, ◌<◌, ◌≤◌, List, [], ◌∷◌}
+use Rattle.hop_rule.proofs.Names.{◌++◌, get_or, Some, length, drop, refl, sym, ap, ◌∙◌, subst}
+use Rattle.hop_rule.proofs.Names.{arith, length-append, cases_eq, cases_lt, dite, ℕ_discrete}
+use Rattle.hop_rule.proofs.Names.{StepBy, step_by, if_same, if_other, past, nth_step, IsStep}
 use Rattle.hop_rule.proofs.Lists.{none-some, some-is}
-use Rattle.hop_rule.specs.Moments.{past, nth_step, IsStep}
 
 drop-all : {A : Type 0} (xs : List A) → drop (length xs) xs ≡ []
 drop-all [] = refl

@@ -1,10 +1,7 @@
 -- The numbers of a seat's own steps rise as their moments do.
-use Rattle.std.proofs.Common.{◌≡◌, ℕ, ◌<◌, List, ap, arith, inl, inr}
-use Rattle.std.proofs.lemmas.Bool.{cases_eq, cases_lt}
-use Rattle.linearization.specs.Orders.{StepBy, steps_of}
-use Rattle.hop_rule.specs.declared.sizes.BoardSizes.{BoardSizes}
-use Rattle.hop_rule.specs.declared.step.BoardStep.{BoardStep}
-use Rattle.hop_rule.specs.Moments.{IsStep, moment_of, Did}
+use Rattle.hop_rule.specs.Moments.{Did}
+use Rattle.hop_rule.proofs.Names.{◌≡◌, ℕ, ◌<◌, List, ap, arith, inl, inr, cases_eq, cases_lt}
+use Rattle.hop_rule.proofs.Names.{StepBy, steps_of, BoardSizes, BoardStep, IsStep, moment_of}
 use Rattle.hop_rule.proofs.Moments.{nth-inside}
 use Rattle.hop_rule.proofs.Parts.{moments_rise, from_moment}
 

@@ -1,23 +1,15 @@
 -- The closer's openings, and the settings at an entry.
-use Rattle.std.proofs.Common.{◌≡◌, ℕ, ◌+◌, ◌/◌, ◌<◌, ◌≤◌, List, [], ◌∷◌}
-use Rattle.std.proofs.Common.{length, sym, refl, ap, ◌∙◌, subst, arith}
-use mathlib.Core.Logic.{dite}
-use native.Mathlib.Decide.{ℕ_discrete}
-use Rattle.linearization.specs.Orders.{StepBy, step_by, steps_of}
-use Rattle.linearization.proofs.ListLemmas.{if_same, if_other}
-use Rattle.linearization.proofs.ViewLemmas.{steps_of_own, steps_of_other}
-use Rattle.hop_rule.specs.Boards.{gates_of, IsLawful, settings}
+use Rattle.hop_rule.specs.Boards.{settings}
 use Rattle.hop_rule.specs.Gates as gates
-use Rattle.hop_rule.specs.Moments.{past, IsStep}
-use Rattle.hop_rule.specs.SettingLaws.{closers, SettingsAreTheClosers, NoSetWhileInside}
-use Rattle.hop_rule.specs.SettingLaws.{VisitsAreNumbered, VisitsShowSettings, VisitsReadSettings}
-use Rattle.hop_rule.specs.Sizes.{FitSizes, closer}
-use Rattle.hop_rule.specs.declared.sizes.BoardSizes.{BoardSizes}
-use Rattle.hop_rule.specs.declared.step.BoardStep.{BoardStep}
-use Rattle.hop_rule.specs.declared.step.BoardStep.TheVariants.{Gate}
-use Rattle.hop_rule.specs.declared.step.GateStep.{GateStep}
-use Rattle.hop_rule.specs.declared.step.GateStep.TheVariants.{Entered, Turned, Left, Shut, NotShut}
-use Rattle.hop_rule.specs.declared.step.GateStep.TheVariants.{Opened, Set, Read}
+use Rattle.hop_rule.specs.SettingLaws.{SettingsAreTheClosers, NoSetWhileInside, VisitsAreNumbered}
+use Rattle.hop_rule.specs.SettingLaws.{VisitsShowSettings, VisitsReadSettings}
+use Rattle.hop_rule.specs.Sizes.{FitSizes}
+use Rattle.hop_rule.proofs.Names.{◌≡◌, ℕ, ◌+◌, ◌/◌, ◌<◌, ◌≤◌, List, [], ◌∷◌, length, sym, refl, ap}
+use Rattle.hop_rule.proofs.Names.{◌∙◌, subst, arith, dite, ℕ_discrete, StepBy, step_by, steps_of}
+use Rattle.hop_rule.proofs.Names.{if_same, if_other, steps_of_own, steps_of_other, gates_of}
+use Rattle.hop_rule.proofs.Names.{IsLawful, past, IsStep, closers, closer, BoardSizes, BoardStep}
+use Rattle.hop_rule.proofs.Names.{Gate, GateStep, Entered, Turned, Left, Shut, NotShut, Opened, Set}
+use Rattle.hop_rule.proofs.Names.{Read}
 use Rattle.hop_rule.proofs.Boards.{parts, gates_past, step_lawful}
 use Rattle.hop_rule.proofs.Cases.{gate_part_case, pick}
 use Rattle.hop_rule.proofs.Closings.{settings_own}

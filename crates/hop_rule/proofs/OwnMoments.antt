@@ -1,13 +1,9 @@
 -- A seat's own steps have moments in the order.
-use Rattle.std.proofs.Common.{◌≡◌, ℕ, ◌==◌, List, [], ◌∷◌, if◌then◌else◌}
-use Rattle.std.proofs.Common.{length, Some, sym, ap, ◌∙◌, arith}
-use mathlib.Core.Logic.{dite}
-use native.Mathlib.Decide.{ℕ_discrete}
-use Rattle.linearization.specs.Orders.{StepBy, steps_of}
-use Rattle.linearization.proofs.ListLemmas.{if_same, if_other}
-use Rattle.linearization.proofs.ViewLemmas.{steps_of_own, steps_of_other}
-use Rattle.hop_rule.specs.Moments.{Did, past, nth_step, moment_of}
+use Rattle.hop_rule.specs.Moments.{Did}
 use Rattle.hop_rule.specs.OwnLaws.{OwnStepsHaveMoments}
+use Rattle.hop_rule.proofs.Names.{◌≡◌, ℕ, ◌==◌, List, [], ◌∷◌, if◌then◌else◌, length, Some, sym, ap}
+use Rattle.hop_rule.proofs.Names.{◌∙◌, arith, dite, ℕ_discrete, StepBy, steps_of, if_same, if_other}
+use Rattle.hop_rule.proofs.Names.{steps_of_own, steps_of_other, past, nth_step, moment_of}
 use Rattle.hop_rule.proofs.Lists.{none-some}
 use Rattle.hop_rule.proofs.Moments.{nth-inside, past-all, past-old, step-inside}
 use Rattle.hop_rule.proofs.Parts.{at_moment, moments_rise, from_moment}

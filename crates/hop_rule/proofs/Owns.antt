@@ -1,24 +1,13 @@
 -- A seat's steps at lanes and at the gate, from its own list; the room of a lane.
-use Rattle.std.proofs.Common.{◌≡◌, ℕ, List, [], ◌∷◌, Option, Some, None, sym, refl, ap, ◌∙◌}
-use mathlib.Core.Logic.{dite}
-use native.Mathlib.Decide.{ℕ_discrete}
-use Rattle.steer_base.specs.Lanes.{LaneLists}
-use Rattle.steer_base.specs.Drops.{bucket_of, lane_drop_cause}
-use Rattle.steer_base.specs.declared.put.DropCause.{DropCause}
-use Rattle.backlog.specs.Puts.{put_by, after_put}
-use Rattle.linearization.specs.Orders.{StepBy, step_by, steps_of}
-use Rattle.linearization.proofs.ViewLemmas.{steps_of_own, steps_of_other}
-use Rattle.hop_rule.specs.declared.sizes.BoardSizes.{BoardSizes}
-use Rattle.hop_rule.specs.declared.step.BoardStep.{BoardStep}
-use Rattle.hop_rule.specs.declared.step.BoardStep.TheVariants.{Lane, Gate, Weighed, Counted}
-use Rattle.hop_rule.specs.declared.step.BoardStep.TheVariants.{LaneOut, LaneIn, OutCounted}
-use Rattle.hop_rule.specs.declared.step.Change.{Change}
-use Rattle.hop_rule.specs.declared.step.Change.TheVariants.{Nothing, Offered, Pulled}
-use Rattle.hop_rule.specs.declared.step.LaneStep.{LaneStep}
-use Rattle.hop_rule.specs.declared.step.LaneStep.TheVariants.{Held, Missed, Freed, OutHeld}
-use Rattle.hop_rule.specs.declared.step.LaneStep.TheVariants.{OutMissed, OutFreed, Given, Retired}
-use Rattle.hop_rule.specs.Lanes.{lane_changed, lane_after_step, lane}
-use Rattle.hop_rule.specs.Boards.{lanes_of, gates_of, lane_steps, gate_steps}
+use Rattle.hop_rule.specs.Boards.{lane_steps, gate_steps}
+use Rattle.hop_rule.proofs.Names.{◌≡◌, ℕ, List, [], ◌∷◌, Option, Some, None, sym, refl, ap, ◌∙◌}
+use Rattle.hop_rule.proofs.Names.{dite, ℕ_discrete, LaneLists, bucket_of, lane_drop_cause}
+use Rattle.hop_rule.proofs.Names.{DropCause, put_by, after_put, StepBy, step_by, steps_of}
+use Rattle.hop_rule.proofs.Names.{steps_of_own, steps_of_other, BoardSizes, BoardStep, Lane, Gate}
+use Rattle.hop_rule.proofs.Names.{Weighed, Counted, LaneOut, LaneIn, OutCounted, Change, Nothing}
+use Rattle.hop_rule.proofs.Names.{Offered, Pulled, LaneStep, Held, Missed, Freed, OutHeld}
+use Rattle.hop_rule.proofs.Names.{OutMissed, OutFreed, Given, Retired, lane_changed}
+use Rattle.hop_rule.proofs.Names.{lane_after_step, lane, lanes_of, gates_of}
 use Rattle.hop_rule.proofs.Cases.{pick, lane_part, gate_part}
 
 module _ (p : ℕ) where

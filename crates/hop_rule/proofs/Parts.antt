@@ -1,13 +1,9 @@
 -- The moments of a seat's own steps, which rise along its list: what an execution says of moments
 -- can be said of own lists.
-use Rattle.std.proofs.Common.{◌≡◌, ℕ, suc, ◌<◌, ◌==◌, List, [], ◌∷◌, length, if◌then◌else◌, sym}
-use Rattle.std.proofs.Common.{refl, ap, ◌∙◌, subst, arith, Some}
-use mathlib.Core.Logic.{dite}
-use native.Mathlib.Decide.{ℕ_discrete}
-use Rattle.linearization.specs.Orders.{StepBy, step_by, steps_of}
-use Rattle.linearization.proofs.ViewLemmas.{steps_of_own, steps_of_other}
-use Rattle.linearization.proofs.ListLemmas.{if_same, if_other}
-use Rattle.hop_rule.specs.Moments.{IsStep, nth_step, moment_of}
+use Rattle.hop_rule.proofs.Names.{◌≡◌, ℕ, suc, ◌<◌, ◌==◌, List, [], ◌∷◌, length, if◌then◌else◌, sym}
+use Rattle.hop_rule.proofs.Names.{refl, ap, ◌∙◌, subst, arith, Some, dite, ℕ_discrete, StepBy}
+use Rattle.hop_rule.proofs.Names.{step_by, steps_of, steps_of_own, steps_of_other, if_same}
+use Rattle.hop_rule.proofs.Names.{if_other, IsStep, nth_step, moment_of}
 use Rattle.hop_rule.proofs.Lists.{some-is, none-some}
 use Rattle.hop_rule.proofs.Moments.{nth-inside, past-old, step-inside, step-more, step-last}
 use Rattle.hop_rule.proofs.Moments.{one-step}

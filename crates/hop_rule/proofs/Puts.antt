@@ -1,33 +1,18 @@
 -- Puts and positions, dropped puts and drops, deliveries and places.
-use Rattle.std.proofs.Common.{◌≡◌, ◌⊎◌, inl, inr, ℕ, zero, suc, ◌+◌, ◌-◌, ◌<◌, ◌≤◌, List, [], ◌∷◌}
-use Rattle.std.proofs.Common.{◌++◌, length, drop, Option, Some, None, sym, refl, ap, ◌∙◌, subst}
-use Rattle.std.proofs.Common.{arith}
-use Rattle.std.specs.Prelude.{slice_get}
-use Rattle.steer_base.specs.Drops.{bucket_of, lane_drop_cause}
-use Rattle.steer_base.specs.Lanes.{LaneLists}
-use Rattle.steer_base.specs.declared.put.DropCause.{DropCause}
 use Rattle.steer_base.specs.declared.put.LaneDrop.{LaneDrop}
-use Rattle.steer_base.specs.declared.put.Put.{Put}
-use Rattle.backlog.specs.Puts.{after_put, put_by}
-use Rattle.linearization.specs.Orders.{StepBy, step_by, steps_of}
-use Rattle.linearization.proofs.ListLemmas.{if_same}
-use Rattle.hop_rule.specs.Boards.{lane_at, lanes_of, IsLawful, out}
-use Rattle.hop_rule.specs.Deliveries.{delivered_from}
 use Rattle.hop_rule.specs.Fronts.{Front}
 use Rattle.hop_rule.specs.Lanes as lanes
-use Rattle.hop_rule.specs.Moments.{past, IsStep}
-use Rattle.hop_rule.specs.OutLanes.{OutList}
-use Rattle.hop_rule.specs.PutLaws.{IsPut, IsDelivery, PutsRight, WasPut, WasDropped, GivesRight}
-use Rattle.hop_rule.specs.PutLaws.{WasGiven, lane_then, EachPutIsRight, EachAcceptedWasPut}
-use Rattle.hop_rule.specs.PutLaws.{EachDropWasPut, PositionsRise, EachDeliveryIsRight}
-use Rattle.hop_rule.specs.PutLaws.{EachMemberWasGiven, PlacesRise, OffersArePuts}
-use Rattle.hop_rule.specs.declared.sizes.BoardSizes.{BoardSizes}
-use Rattle.hop_rule.specs.declared.step.BoardStep.{BoardStep}
-use Rattle.hop_rule.specs.declared.step.BoardStep.TheVariants.{Lane}
-use Rattle.hop_rule.specs.declared.step.Change.{Change}
-use Rattle.hop_rule.specs.declared.step.Change.TheVariants.{Nothing, Offered, Pulled}
-use Rattle.hop_rule.specs.declared.step.LaneStep.{LaneStep}
-use Rattle.hop_rule.specs.declared.step.LaneStep.TheVariants.{Freed, Given}
+use Rattle.hop_rule.specs.PutLaws.{IsDelivery, PutsRight, WasPut, WasDropped, GivesRight, WasGiven}
+use Rattle.hop_rule.specs.PutLaws.{EachPutIsRight, EachAcceptedWasPut, EachDropWasPut}
+use Rattle.hop_rule.specs.PutLaws.{PositionsRise, EachDeliveryIsRight, EachMemberWasGiven}
+use Rattle.hop_rule.specs.PutLaws.{PlacesRise, OffersArePuts}
+use Rattle.hop_rule.proofs.Names.{◌≡◌, ◌⊎◌, inl, inr, ℕ, zero, suc, ◌+◌, ◌-◌, ◌<◌, ◌≤◌, List, []}
+use Rattle.hop_rule.proofs.Names.{◌∷◌, ◌++◌, length, drop, Option, Some, None, sym, refl, ap, ◌∙◌}
+use Rattle.hop_rule.proofs.Names.{subst, arith, slice_get, bucket_of, lane_drop_cause, LaneLists}
+use Rattle.hop_rule.proofs.Names.{DropCause, Put, after_put, put_by, StepBy, step_by, steps_of}
+use Rattle.hop_rule.proofs.Names.{if_same, lane_at, lanes_of, IsLawful, out, delivered_from, past}
+use Rattle.hop_rule.proofs.Names.{IsStep, OutList, IsPut, lane_then, BoardSizes, BoardStep, Lane}
+use Rattle.hop_rule.proofs.Names.{Change, Nothing, Offered, Pulled, LaneStep, Freed, Given}
 use Rattle.hop_rule.proofs.Boards.{lanes_past, step_lawful, put_now}
 use Rattle.hop_rule.proofs.Cases.{lane_case, out_case, lane_part_case}
 use Rattle.hop_rule.proofs.Deliveries.{facts, Waits}

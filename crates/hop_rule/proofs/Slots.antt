@@ -1,21 +1,13 @@
 -- Who has taken a slot by its own steps is its lane's holder, and the slot is as its steps say.
-use Rattle.std.proofs.Common.{◌≡◌, ◌≢◌, ℕ, suc, ◌+◌, ◌<◌, List, [], ◌∷◌, sym, refl, ap, ◌∙◌}
-use Rattle.std.proofs.Common.{arith}
-use mathlib.Core.Logic.{dite}
-use native.Mathlib.Decide.{ℕ_discrete}
-use Rattle.linearization.specs.Orders.{StepBy, step_by, steps_of}
-use Rattle.linearization.proofs.ViewLemmas.{steps_of_own, steps_of_other}
-use Rattle.linearization.proofs.ListLemmas.{if_same, if_other}
-use Rattle.hop_rule.specs.declared.sizes.BoardSizes.{BoardSizes}
-use Rattle.hop_rule.specs.declared.step.BoardStep.{BoardStep}
-use Rattle.hop_rule.specs.declared.step.BoardStep.TheVariants.{Lane, Gate, Weighed, Counted}
-use Rattle.hop_rule.specs.declared.step.BoardStep.TheVariants.{LaneOut, LaneIn, OutCounted}
-use Rattle.hop_rule.specs.declared.step.LaneStep.{LaneStep}
-use Rattle.hop_rule.specs.declared.step.LaneStep.TheVariants.{Held, Missed, Freed, OutHeld}
-use Rattle.hop_rule.specs.declared.step.LaneStep.TheVariants.{OutMissed, OutFreed, Given, Retired}
 use Rattle.hop_rule.specs.Lanes as lanes
-use Rattle.hop_rule.specs.Boards.{lanes_of, MayCome, IsLawful, out_slot, SlotState, full, taken}
-use Rattle.hop_rule.specs.Boards.{empty, state_after, slot_state, own_state}
+use Rattle.hop_rule.specs.Boards.{out_slot, SlotState, full, taken, empty, state_after, slot_state}
+use Rattle.hop_rule.specs.Boards.{own_state}
+use Rattle.hop_rule.proofs.Names.{◌≡◌, ◌≢◌, ℕ, suc, ◌+◌, ◌<◌, List, [], ◌∷◌, sym, refl, ap, ◌∙◌}
+use Rattle.hop_rule.proofs.Names.{arith, dite, ℕ_discrete, StepBy, step_by, steps_of, steps_of_own}
+use Rattle.hop_rule.proofs.Names.{steps_of_other, if_same, if_other, BoardSizes, BoardStep, Lane}
+use Rattle.hop_rule.proofs.Names.{Gate, Weighed, Counted, LaneOut, LaneIn, OutCounted, LaneStep}
+use Rattle.hop_rule.proofs.Names.{Held, Missed, Freed, OutHeld, OutMissed, OutFreed, Given, Retired}
+use Rattle.hop_rule.proofs.Names.{lanes_of, MayCome, IsLawful}
 use Rattle.hop_rule.proofs.Lanes.{holds, out_holds}
 use Rattle.hop_rule.proofs.Cases.{lane_part}
 use Rattle.hop_rule.proofs.Boards.{parts}

@@ -1,12 +1,9 @@
 -- What the loaded word of a lane counts.
-use Rattle.std.proofs.Common.{ℕ, zero, suc, ◌≤◌, List, length, subst, arith}
-use Rattle.linearization.specs.Orders.{StepBy}
-use Rattle.hop_rule.specs.Boards.{accepted, lanes_of, out}
+use Rattle.hop_rule.specs.Boards.{accepted}
 use Rattle.hop_rule.specs.Lanes as lanes
-use Rattle.hop_rule.specs.Moments.{past}
 use Rattle.hop_rule.specs.TailLaws.{LoadedTailsAreAccepted, LoadedTailsAreDelivered}
-use Rattle.hop_rule.specs.declared.step.BoardStep.{BoardStep}
-use Rattle.hop_rule.specs.declared.step.BoardStep.TheVariants.{Counted, OutCounted}
+use Rattle.hop_rule.proofs.Names.{ℕ, zero, suc, ◌≤◌, List, length, subst, arith, StepBy, lanes_of}
+use Rattle.hop_rule.proofs.Names.{out, past, BoardStep, Counted, OutCounted}
 use Rattle.hop_rule.proofs.Boards.{step_lawful}
 use Rattle.hop_rule.proofs.Fronts.{count_later, out_count_later}
 use Rattle.hop_rule.proofs.Moments.{past-all, step-inside}

@@ -1,16 +1,12 @@
 -- Wrong orders are not lawful.
-use Rattle.std.proofs.Common.{◌≡◌, ◌+◌, List, length, sym, ap}
-use Rattle.std.proofs.Common.{◌∙◌, arith}
 use Rattle.backlog.specs.Puts.{next_waiting}
-use Rattle.linearization.specs.Orders.{StepBy, steps_of}
-use Rattle.hop_rule.specs.Boards.{gates_of, lanes_of, retired}
-use Rattle.hop_rule.specs.Deliveries.{delivered_from}
 use Rattle.hop_rule.specs.Gates as gates
 use Rattle.hop_rule.specs.Lanes as lanes
-use Rattle.hop_rule.specs.Sizes.{closer, puller}
 use Rattle.hop_rule.specs.Unlawful.{PutsElsewhere, PullsTheNewest, RetiresBeforeDelivery}
 use Rattle.hop_rule.specs.Unlawful.{SetsInAnOpenGate, ReadsTwoValues}
-use Rattle.hop_rule.specs.declared.step.LaneStep.{LaneStep}
+use Rattle.hop_rule.proofs.Names.{◌≡◌, ◌+◌, List, length, sym, ap, ◌∙◌, arith, StepBy, steps_of}
+use Rattle.hop_rule.proofs.Names.{gates_of, lanes_of, retired, delivered_from, closer, puller}
+use Rattle.hop_rule.proofs.Names.{LaneStep}
 use Rattle.hop_rule.proofs.Boards.{parts}
 use Rattle.hop_rule.proofs.Deliveries.{facts, gone}
 use Rattle.hop_rule.proofs.Lists.{none-some, some-is}

@@ -1,25 +1,18 @@
 -- What lies between an entry and a leave, between a close and an opening, and between two moments
 -- at which the settings
 -- differ.
-use Rattle.std.proofs.Common.{◌≡◌, ◌≢◌, inl, inr, ℕ, zero, suc, ◌<◌, ◌≤◌, Bool, true}
-use Rattle.std.proofs.Common.{false, List, ◌∷◌, length, sym, refl, ap, ◌∙◌, subst, arith}
-use Rattle.std.proofs.lemmas.Bool.{cases_Bool, cases_eq, cases_lt, true≢false}
-use mathlib.Core.Logic.{dite}
-use native.Mathlib.Decide.{ℕ_discrete}
-use Rattle.linearization.specs.Orders.{StepBy, step_by, steps_of}
-use Rattle.linearization.proofs.ViewLemmas.{steps_of_own, steps_of_other}
-use Rattle.hop_rule.specs.declared.sizes.BoardSizes.{BoardSizes}
-use Rattle.hop_rule.specs.declared.step.BoardStep.{BoardStep}
-use Rattle.hop_rule.specs.declared.step.BoardStep.TheVariants.{Lane, Gate, Weighed, Counted}
-use Rattle.hop_rule.specs.declared.step.BoardStep.TheVariants.{LaneOut, LaneIn, OutCounted}
-use Rattle.hop_rule.specs.declared.step.GateStep.{GateStep}
-use Rattle.hop_rule.specs.declared.step.GateStep.TheVariants.{Entered, Turned, Left, Shut, NotShut}
-use Rattle.hop_rule.specs.declared.step.GateStep.TheVariants.{Opened, Set, Read}
-use Rattle.hop_rule.specs.Sizes.{closer}
+use Rattle.std.proofs.Common.{Bool, true}
+use Rattle.std.proofs.lemmas.Bool.{cases_Bool, true≢false}
 use Rattle.hop_rule.specs.Gates.{Visit, outside, inside, backing, visit, with_setting, closed}
 use Rattle.hop_rule.specs.Gates.{all_closed}
-use Rattle.hop_rule.specs.Boards.{gates_of, MayCome, IsLawful, settings, visit_of}
-use Rattle.hop_rule.specs.Moments.{past, IsStep}
+use Rattle.hop_rule.specs.Boards.{settings, visit_of}
+use Rattle.hop_rule.proofs.Names.{◌≡◌, ◌≢◌, inl, inr, ℕ, zero, suc, ◌<◌, ◌≤◌, false, List, ◌∷◌}
+use Rattle.hop_rule.proofs.Names.{length, sym, refl, ap, ◌∙◌, subst, arith, cases_eq, cases_lt}
+use Rattle.hop_rule.proofs.Names.{dite, ℕ_discrete, StepBy, step_by, steps_of, steps_of_own}
+use Rattle.hop_rule.proofs.Names.{steps_of_other, BoardSizes, BoardStep, Lane, Gate, Weighed}
+use Rattle.hop_rule.proofs.Names.{Counted, LaneOut, LaneIn, OutCounted, GateStep, Entered, Turned}
+use Rattle.hop_rule.proofs.Names.{Left, Shut, NotShut, Opened, Set, Read, closer, gates_of, MayCome}
+use Rattle.hop_rule.proofs.Names.{IsLawful, past, IsStep}
 use Rattle.hop_rule.proofs.Gates.{closes, unshut}
 use Rattle.hop_rule.proofs.Moments.{past-all, past-step, along}
 use Rattle.hop_rule.proofs.Cases.{gate_part}
