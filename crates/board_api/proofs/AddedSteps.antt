@@ -1,18 +1,12 @@
 -- What is read of a seat's own list after new steps.
-use Rattle.std.proofs.Common.{◌≡◌, ℕ, ◌/◌, ◌^◌, List, [], ◌∷◌, ◌++◌, Some, sym, refl, ap, ◌∙◌}
-use Rattle.std.proofs.Common.{subst}
+use Rattle.std.proofs.Common.{◌^◌}
 use Rattle.std.proofs.lemmas.List.Elements.{filter_map-append}
-use Rattle.steer_base.specs.Lanes.{LaneLists}
-use Rattle.linearization.proofs.ListLemmas.{if_same}
-use Rattle.hop_rule.specs.Boards.{empty, gate_steps, lane_steps, out_slot, own_state}
-use Rattle.hop_rule.specs.Gates.{closed, closed_after, found, found_after, visit, visit_after}
+use Rattle.hop_rule.specs.Boards.{empty, lane_steps, out_slot, own_state}
+use Rattle.hop_rule.specs.Gates.{closed, closed_after, found, found_after, visit_after}
 use Rattle.hop_rule.specs.Lanes.{holding, out_holding}
 use Rattle.hop_rule.specs.OutLanes.{OutList}
 use Rattle.hop_rule.specs.Owns.{visit_in, visits_of}
-use Rattle.hop_rule.specs.declared.sizes.BoardSizes.{BoardSizes}
-use Rattle.hop_rule.specs.declared.step.BoardStep.{BoardStep}
-use Rattle.hop_rule.specs.declared.step.BoardStep.TheVariants.{Lane, Gate, LaneOut}
-use Rattle.hop_rule.specs.declared.step.GateStep.TheVariants.{Read}
+use Rattle.hop_rule.specs.declared.step.BoardStep.TheVariants.{LaneOut}
 use Rattle.hop_rule.specs.declared.step.LaneStep.TheVariants.{Held, OutHeld}
 use Rattle.board_api.specs.Calls.HeldLanes.{FitsLane, IsMiddle, IsOut}
 use Rattle.board_api.specs.Laws.OwnSteps.{QuietStepsStay, TakenLanesAreHeld}
@@ -20,6 +14,9 @@ use Rattle.board_api.specs.Seats.{BoardSeatView}
 use Rattle.board_api.specs.Calls.Results.{TookMiddle, TookOut}
 use Rattle.board_api.specs.declared.held_lane.HeldLane.TheVariants as held
 use Rattle.board_api.specs.declared.held_lane.LaneId.TheVariants as id
+use Rattle.board_api.proofs.Names.{◌≡◌, ℕ, ◌/◌, List, [], ◌∷◌, ◌++◌, Some, sym, refl, ap, ◌∙◌}
+use Rattle.board_api.proofs.Names.{subst, LaneLists, if_same, gate_steps, visit, BoardSizes}
+use Rattle.board_api.proofs.Names.{BoardStep, Lane, Gate, Read}
 
 -- ---- lanes
 

@@ -1,27 +1,19 @@
 -- A law of the orders of steps is a law of each closing: the own lists in the seats are those of
 -- the order, and the lists that are left are its lists.
-use Rattle.std.proofs.Common.{◌≡◌, ◌≢◌, ℕ, zero, suc, ◌+◌, ◌<◌, List, [], ◌∷◌, map, All, sym, refl}
-use Rattle.std.proofs.Common.{ap, ◌∙◌, subst, arith}
-use Rattle.std.specs.List.{Contains, range_with_len}
+use Rattle.std.proofs.Common.{zero, map, All}
+use Rattle.std.specs.List.{Contains}
 use Rattle.std.proofs.lemmas.List.Elements.{All-cons, All-head, All-nil, All-tail}
 use Rattle.std.proofs.lemmas.List.FromFn.{get_or-range_with_len, length-range_with_len}
-use mathlib.Core.Logic.{dite}
-use native.Mathlib.Decide.{ℕ_discrete}
 use Rattle.atomic_table.specs.Seated.{TableId}
-use Rattle.linearization.specs.Orders.{StepBy, steps_of}
+use Rattle.linearization.specs.Orders.{steps_of}
 use Rattle.linearization.specs.Seats.{SeatView, ArePartsOf, HasPart, IsByOne, numbers_of}
-use Rattle.linearization.proofs.ListLemmas.{if_same, if_other}
-use Rattle.linearization.proofs.ViewLemmas.{steps_of_other}
-use Rattle.hop_rule.specs.Boards.{IsLawful}
-use Rattle.hop_rule.specs.Owns.{own_of}
-use Rattle.hop_rule.specs.Sizes.{FitSizes}
-use Rattle.hop_rule.specs.declared.sizes.BoardSizes.{BoardSizes}
-use Rattle.hop_rule.specs.declared.step.BoardStep.{BoardStep}
 use Rattle.board_api.specs.Closings.Closings.{AtEachClosing, EachOrderCloses, own_in, seat_in}
 use Rattle.board_api.specs.Closings.Closings.{seats_in}
-use Rattle.board_api.specs.Closings.Finals.{lists_of}
 use Rattle.board_api.specs.Seats.{BoardSeatView, ordered_seat}
-use Rattle.board_api.specs.declared.lists.BoardLists.{BoardLists}
+use Rattle.board_api.proofs.Names.{◌≡◌, ◌≢◌, ℕ, suc, ◌+◌, ◌<◌, List, [], ◌∷◌, sym, refl, ap, ◌∙◌}
+use Rattle.board_api.proofs.Names.{subst, arith, range_with_len, dite, ℕ_discrete, StepBy, if_same}
+use Rattle.board_api.proofs.Names.{if_other, steps_of_other, IsLawful, own_of, FitSizes, BoardSizes}
+use Rattle.board_api.proofs.Names.{BoardStep, lists_of, BoardLists}
 
 abbrev Order : Type 0
 Order = List (StepBy BoardStep)

@@ -1,18 +1,13 @@
 -- Who is inside has entered, by its own list, and not left since.
-use Rattle.std.proofs.Common.{◌≡◌, inl, inr, ℕ, ◌-◌, ◌/◌, ◌^◌, ◌<◌, ◌≤◌, List, [], ◌∷◌, length}
-use Rattle.std.proofs.Common.{take, drop, Some, sym, refl, ap, ◌∙◌, arith, length-drop}
-use Rattle.std.proofs.lemmas.Bool.{cases_eq}
+use Rattle.std.proofs.Common.{◌^◌, take, drop, length-drop}
 use Rattle.std.proofs.lemmas.List.{take-append-drop}
-use Rattle.linearization.proofs.ListLemmas.{if_same, if_other}
-use Rattle.hop_rule.specs.Boards.{gate_steps}
-use Rattle.hop_rule.specs.Gates.{Visit, backing, inside, outside, visit, visit_number}
-use Rattle.hop_rule.specs.Moments.{nth_step, past}
-use Rattle.hop_rule.specs.declared.step.BoardStep.{BoardStep}
-use Rattle.hop_rule.specs.declared.step.BoardStep.TheVariants.{Gate}
+use Rattle.hop_rule.specs.Gates.{Visit, backing, inside, outside}
 use Rattle.hop_rule.specs.declared.step.GateStep.TheVariants.{Entered, Turned, Left}
-use Rattle.hop_rule.proofs.Lists.{some-is}
-use Rattle.hop_rule.proofs.Moments.{nth-inside, nth-old}
-use Rattle.board_api.specs.OwnSteps.{Has}
+use Rattle.hop_rule.proofs.Moments.{nth-old}
+use Rattle.board_api.proofs.Names.{◌≡◌, inl, inr, ℕ, ◌-◌, ◌/◌, ◌<◌, ◌≤◌, List, [], ◌∷◌, length}
+use Rattle.board_api.proofs.Names.{Some, sym, refl, ap, ◌∙◌, arith, cases_eq, if_same, if_other}
+use Rattle.board_api.proofs.Names.{gate_steps, visit, visit_number, nth_step, past, BoardStep, Gate}
+use Rattle.board_api.proofs.Names.{some-is, nth-inside, Has}
 
 pub record EntryOf (ds : List BoardStep) : Type 0 where
   pub entry : ℕ

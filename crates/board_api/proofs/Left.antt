@@ -1,20 +1,13 @@
 -- The lists that an order leaves, read by number.
-use Rattle.std.proofs.Common.{◌≡◌, ℕ, ◌<◌, ◌≤◌, List, [], map, Some, ap, ◌∙◌, sym, arith}
-use Rattle.std.specs.List.{range_with_len}
-use Rattle.std.specs.Prelude.{slice_get}
-use Rattle.std.proofs.lemmas.Bool.{cases_lt}
+use Rattle.std.proofs.Common.{map}
 use Rattle.std.proofs.lemmas.List.{get_or_past}
 use Rattle.std.proofs.lemmas.List.FromFn.{get_or-map-range_with_len, length-map-range_with_len}
-use Rattle.std.proofs.Common.{inl, inr}
 use Rattle.steer_base.specs.declared.put.LaneDrop.{LaneDrop}
-use Rattle.linearization.specs.Orders.{StepBy}
 use Rattle.history.specs.Lists.{lane_at as left_at, list_at, no_lane}
-use Rattle.history.specs.declared.lane_list.LaneList.{LaneList}
-use Rattle.hop_rule.specs.Boards.{lane_at, out}
-use Rattle.hop_rule.specs.declared.sizes.BoardSizes.{BoardSizes}
-use Rattle.hop_rule.specs.declared.step.BoardStep.{BoardStep}
-use Rattle.hop_rule.proofs.Lists.{none-some}
-use Rattle.board_api.specs.Closings.Finals.{lane_list, lists_of}
+use Rattle.board_api.specs.Closings.Finals.{lane_list}
+use Rattle.board_api.proofs.Names.{◌≡◌, ℕ, ◌<◌, ◌≤◌, List, [], Some, ap, ◌∙◌, sym, arith}
+use Rattle.board_api.proofs.Names.{range_with_len, slice_get, cases_lt, inl, inr, StepBy, LaneList}
+use Rattle.board_api.proofs.Names.{lane_at, out, BoardSizes, BoardStep, none-some, lists_of}
 
 module _ (about : BoardSizes) (order : List (StepBy BoardStep)) where
   pub lane_is : (l : ℕ) → l < about.lanes

@@ -3,6 +3,7 @@ pub mod Crosses
 pub mod Endings
 pub mod Entries
 pub mod Left
+pub mod Names
 pub mod NumberedSteps
 pub mod OwnDrops
 pub mod OwnHeads

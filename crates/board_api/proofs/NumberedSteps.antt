@@ -1,16 +1,11 @@
 -- The numbers of a seat's own steps, and of the visits in which it read settings.
-use Rattle.std.proofs.Common.{◌≡◌, ◌≤◌, ℕ, suc, ◌+◌, ◌-◌, List, [], ◌∷◌, ◌++◌, length, Some, refl}
-use Rattle.std.proofs.Common.{ap, ◌∙◌, arith, length-append}
-use Rattle.hop_rule.specs.Boards.{gate_steps}
-use Rattle.hop_rule.specs.Gates.{visit, visit_number}
-use Rattle.hop_rule.specs.Moments.{nth_step, past}
-use Rattle.hop_rule.specs.declared.step.BoardStep.{BoardStep}
-use Rattle.hop_rule.specs.declared.step.BoardStep.TheVariants.{Gate}
-use Rattle.hop_rule.specs.declared.step.GateStep.TheVariants.{Read}
-use Rattle.hop_rule.proofs.Moments.{nth-between, nth-inside, nth-last, nth-member, nth-old}
-use Rattle.hop_rule.proofs.Moments.{past-all, past-between, past-old}
+use Rattle.hop_rule.proofs.Moments.{nth-between, nth-last, nth-member, nth-old, past-all}
+use Rattle.hop_rule.proofs.Moments.{past-between, past-old}
 use Rattle.board_api.specs.Laws.OwnSteps.{NumberedReadsStay, PlacesAreNumbered, ReadsAreNumbered}
 use Rattle.board_api.specs.Laws.OwnSteps.{StepsAreNumbered}
+use Rattle.board_api.proofs.Names.{◌≡◌, ◌≤◌, ℕ, suc, ◌+◌, ◌-◌, List, [], ◌∷◌, ◌++◌, length, Some}
+use Rattle.board_api.proofs.Names.{refl, ap, ◌∙◌, arith, length-append, gate_steps, visit}
+use Rattle.board_api.proofs.Names.{visit_number, nth_step, past, BoardStep, Gate, Read, nth-inside}
 
 pub steps_are_numbered : StepsAreNumbered
 steps_are_numbered newer older d = (nth-between newer d older, past-between newer d older)

@@ -1,22 +1,13 @@
 -- An out lane is the sum of all deliveries to it, and as many lanes are left as the board has.
-use Rattle.std.proofs.Common.{◌≡◌, ℕ, ◌+◌, List, [], ◌∷◌, ◌++◌, length}
-use Rattle.std.proofs.Common.{length-append, Some, None, refl, ap, ◌∙◌, arith}
-use Rattle.std.specs.List.{range_with_len}
 use Rattle.std.proofs.lemmas.List.{length-map}
 use Rattle.std.proofs.lemmas.List.FromFn.{length-range_with_len}
-use mathlib.Core.Logic.{dite}
-use native.Mathlib.Decide.{ℕ_discrete}
-use Rattle.linearization.specs.Orders.{StepBy, step_by}
-use Rattle.linearization.proofs.ListLemmas.{if_same, if_other}
-use Rattle.hop_rule.specs.Boards.{IsLawful, MayCome, out}
-use Rattle.hop_rule.specs.Owns.{own_of}
-use Rattle.hop_rule.specs.declared.sizes.BoardSizes.{BoardSizes}
-use Rattle.hop_rule.specs.declared.step.BoardStep.{BoardStep}
-use Rattle.hop_rule.specs.declared.step.BoardStep.TheVariants.{Lane}
-use Rattle.hop_rule.specs.declared.step.LaneStep.TheVariants.{Given}
-use Rattle.board_api.specs.Closings.Finals.{lane_list, lists_of}
+use Rattle.board_api.specs.Closings.Finals.{lane_list}
 use Rattle.board_api.specs.Laws.Lanes.{ListsAreCounted, OutsAreSums}
 use Rattle.board_api.specs.OwnSteps.{given_in}
+use Rattle.board_api.proofs.Names.{◌≡◌, ℕ, ◌+◌, List, [], ◌∷◌, ◌++◌, length, length-append, Some}
+use Rattle.board_api.proofs.Names.{None, refl, ap, ◌∙◌, arith, range_with_len, dite, ℕ_discrete}
+use Rattle.board_api.proofs.Names.{StepBy, step_by, if_same, if_other, IsLawful, MayCome, out}
+use Rattle.board_api.proofs.Names.{own_of, BoardSizes, BoardStep, Lane, Given, lists_of}
 use Rattle.board_api.proofs.Left.{out_is}
 use Rattle.board_api.proofs.Sums.{gained, is_sum}
 

@@ -1,22 +1,13 @@
 -- The laws of sums and of drops, by own steps.
-use Rattle.std.proofs.Common.{◌≡◌, inl, inr, ℕ, ◌<◌, List, [], length, sym, ap, ◌∙◌, subst}
-use Rattle.std.specs.Prelude.{slice_get}
-use Rattle.std.proofs.lemmas.Bool.{cases_lt}
-use Rattle.steer_base.specs.Lanes.{LaneLists}
 use Rattle.backlog.specs.Offers.{IsExplained}
 use Rattle.backlog.specs.Rising.{AreRising}
-use Rattle.linearization.specs.Orders.{StepBy}
-use Rattle.history.specs.declared.lane_list.LaneList.{LaneList}
-use Rattle.hop_rule.specs.Boards.{IsLawful, lane_at}
-use Rattle.hop_rule.specs.declared.sizes.BoardSizes.{BoardSizes}
-use Rattle.hop_rule.specs.declared.step.BoardStep.{BoardStep}
 use Rattle.hop_rule.proofs.Drops.{drop_counts_rise, drops_are_explained}
-use Rattle.hop_rule.proofs.Lists.{none-some}
-use Rattle.board_api.specs.Closings.Finals.{lists_of}
 use Rattle.board_api.specs.Lists.{as_lane}
-use Rattle.board_api.specs.OwnSteps.{put_step}
 use Rattle.board_api.specs.Laws.Puts.{CountsAreSums, DropsHaveCauses, DropsRise}
-use Rattle.board_api.specs.declared.lists.BoardLists.{BoardLists}
+use Rattle.board_api.proofs.Names.{◌≡◌, inl, inr, ℕ, ◌<◌, List, [], length, sym, ap, ◌∙◌, subst}
+use Rattle.board_api.proofs.Names.{slice_get, cases_lt, LaneLists, StepBy, LaneList, IsLawful}
+use Rattle.board_api.proofs.Names.{lane_at, BoardSizes, BoardStep, none-some, lists_of, put_step}
+use Rattle.board_api.proofs.Names.{BoardLists}
 use Rattle.board_api.proofs.Left.{drop_left, lane_is, lane_past}
 use Rattle.board_api.proofs.OwnPuts.{lane_of}
 use Rattle.board_api.proofs.OwnTimes.{moments, own}

@@ -1,35 +1,29 @@
 -- The laws of heads and of lanes that were found empty, by own steps.
-use Rattle.std.proofs.Common.{◌≡◌, inl, inr, ℕ, suc, ◌+◌, ◌<◌, ◌≤◌, List, length, sym, refl}
-use Rattle.std.proofs.Common.{ap, ◌∙◌, subst, arith}
-use Rattle.std.proofs.lemmas.Bool.{cases_eq}
-use Rattle.linearization.specs.Orders.{StepBy}
-use Rattle.history.specs.declared.lane_list.LaneList.{LaneList}
-use Rattle.hop_rule.specs.Boards.{IsLawful, gate_steps, lanes_of, retired}
-use Rattle.hop_rule.specs.Deliveries.{Delivery, delivered_from}
+use Rattle.hop_rule.specs.Boards.{retired}
+use Rattle.hop_rule.specs.Deliveries.{Delivery}
 use Rattle.hop_rule.specs.Emptied.{WasEmptied}
-use Rattle.hop_rule.specs.Gates.{visit_number}
 use Rattle.hop_rule.specs.Lanes as lanes
-use Rattle.hop_rule.specs.Moments.{IsStep, nth_step, past}
+use Rattle.hop_rule.specs.Moments.{IsStep}
 use Rattle.hop_rule.specs.PutLaws as put
 use Rattle.hop_rule.specs.SettingLaws.{put_visit}
-use Rattle.hop_rule.specs.Sizes.{FitSizes, closer, puller}
-use Rattle.hop_rule.specs.declared.sizes.BoardSizes.{BoardSizes}
-use Rattle.hop_rule.specs.declared.step.BoardStep.{BoardStep}
-use Rattle.hop_rule.specs.declared.step.BoardStep.TheVariants.{Gate, Weighed, Counted}
+use Rattle.hop_rule.specs.Sizes.{closer}
+use Rattle.hop_rule.specs.declared.step.BoardStep.TheVariants.{Weighed, Counted}
 use Rattle.hop_rule.specs.declared.step.GateStep.TheVariants.{Opened, Shut}
-use Rattle.hop_rule.proofs.Boards.{retired_later, step_lawful}
+use Rattle.hop_rule.proofs.Boards.{retired_later}
 use Rattle.hop_rule.proofs.EarlyFirst.{emptied_lanes_stand_first, heads_are_below_tails}
 use Rattle.hop_rule.proofs.Heads.{in_turn, loaded_heads_are_passed, loaded_heads_are_retires}
-use Rattle.hop_rule.proofs.Lists.{some-is}
 use Rattle.hop_rule.proofs.Moments.{one-step}
 use Rattle.hop_rule.proofs.Numbers.{none_between}
 use Rattle.hop_rule.proofs.Tails.{bit-small}
-use Rattle.board_api.specs.Closings.Finals.{lists_of}
 use Rattle.board_api.specs.Laws.Heads.{EmptiedLanesStandFirst, FindsEmpty}
 use Rattle.board_api.specs.Laws.Heads.{HeadsAreBelowTails, HeadsArePassed, HeadsRise}
-use Rattle.board_api.specs.OwnSteps.{Has, delivered_by, put_step, visit_before}
+use Rattle.board_api.specs.OwnSteps.{visit_before}
 use Rattle.board_api.specs.Laws.Puts.{WasPut}
-use Rattle.board_api.specs.declared.lists.BoardLists.{BoardLists}
+use Rattle.board_api.proofs.Names.{◌≡◌, inl, inr, ℕ, suc, ◌+◌, ◌<◌, ◌≤◌, List, length, sym, refl}
+use Rattle.board_api.proofs.Names.{ap, ◌∙◌, subst, arith, cases_eq, StepBy, LaneList, IsLawful}
+use Rattle.board_api.proofs.Names.{gate_steps, lanes_of, delivered_from, visit_number, nth_step}
+use Rattle.board_api.proofs.Names.{past, FitSizes, puller, BoardSizes, BoardStep, Gate, step_lawful}
+use Rattle.board_api.proofs.Names.{some-is, lists_of, Has, delivered_by, put_step, BoardLists}
 use Rattle.board_api.proofs.Left.{lane_is}
 use Rattle.board_api.proofs.OwnPuts.{order_put}
 use Rattle.board_api.proofs.OwnTimes.{moments, own, rise, step_is, when}

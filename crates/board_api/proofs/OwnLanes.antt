@@ -1,34 +1,23 @@
 -- The laws of holds, deliveries and of the one server of a lane, by own steps.
-use Rattle.std.proofs.Common.{◌≡◌, inl, inr, ℕ, suc, ◌+◌, ◌-◌, ◌*◌, ◌<◌, List, length, Some, sym}
-use Rattle.std.proofs.Common.{ap, ◌∙◌, subst, arith}
-use Rattle.std.specs.Prelude.{slice_get}
-use Rattle.std.proofs.lemmas.Bool.{cases_eq, cases_lt}
-use Rattle.steer_base.specs.Lanes.{LaneLists}
-use Rattle.linearization.specs.Orders.{StepBy}
+use Rattle.std.proofs.Common.{◌*◌}
 use Rattle.history.specs.Lists.{list_at}
-use Rattle.history.specs.declared.lane_list.LaneList.{LaneList}
-use Rattle.hop_rule.specs.Boards.{IsLawful, lane_at, lanes_of, out}
-use Rattle.hop_rule.specs.Deliveries.{delivered_from}
 use Rattle.hop_rule.specs.Fronts.{Front}
 use Rattle.hop_rule.specs.Lanes as lanes
-use Rattle.hop_rule.specs.Moments.{nth_step, past}
 use Rattle.hop_rule.specs.OutLanes.{OutList, out_list}
-use Rattle.hop_rule.specs.Sizes.{puller}
-use Rattle.hop_rule.specs.declared.sizes.BoardSizes.{BoardSizes}
-use Rattle.hop_rule.specs.declared.step.BoardStep.{BoardStep}
-use Rattle.hop_rule.specs.declared.step.BoardStep.TheVariants.{Lane}
-use Rattle.hop_rule.specs.declared.step.LaneStep.TheVariants.{Held, OutHeld, Given}
-use Rattle.hop_rule.proofs.Boards.{step_lawful}
+use Rattle.hop_rule.specs.declared.step.LaneStep.TheVariants.{Held, OutHeld}
 use Rattle.hop_rule.proofs.Fronts.{lane_later, out_later}
 use Rattle.hop_rule.proofs.Heads.{delivered_as_accepted, delivered_in_order, in_turn}
 use Rattle.hop_rule.proofs.Puts.{each_delivery_is_right, each_member_was_given, places_rise, top}
-use Rattle.board_api.specs.Closings.Finals.{lists_of}
 use Rattle.board_api.specs.Laws.Lanes.{DeliveriesHavePlaces, GivesPlace, HoldFinds, HoldsFindFronts}
 use Rattle.board_api.specs.Laws.Lanes.{IsInTurn, IsServedByOne, LanesAreInTurn, LanesAreServedByOne}
 use Rattle.board_api.specs.Laws.Lanes.{OutHoldFinds, WasGiven}
-use Rattle.board_api.specs.OwnSteps.{Has, delivered_by, pulled_by, pulled_in, retired_by}
-use Rattle.board_api.specs.OwnSteps.{retired_in}
-use Rattle.board_api.specs.declared.lists.BoardLists.{BoardLists}
+use Rattle.board_api.specs.OwnSteps.{pulled_by, pulled_in, retired_by, retired_in}
+use Rattle.board_api.proofs.Names.{◌≡◌, inl, inr, ℕ, suc, ◌+◌, ◌-◌, ◌<◌, List, length, Some, sym}
+use Rattle.board_api.proofs.Names.{ap, ◌∙◌, subst, arith, slice_get, cases_eq, cases_lt, LaneLists}
+use Rattle.board_api.proofs.Names.{StepBy, LaneList, IsLawful, lane_at, lanes_of, out}
+use Rattle.board_api.proofs.Names.{delivered_from, nth_step, past, puller, BoardSizes, BoardStep}
+use Rattle.board_api.proofs.Names.{Lane, Given, step_lawful, lists_of, Has, delivered_by}
+use Rattle.board_api.proofs.Names.{BoardLists}
 use Rattle.board_api.proofs.Left.{lane_is, lane_past, member_left, out_is}
 use Rattle.board_api.proofs.Owners.{all_of, first-nth, from-nth, given_own, pulled_own, pulls}
 use Rattle.board_api.proofs.Owners.{retired_own, retires}

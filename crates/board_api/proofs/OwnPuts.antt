@@ -1,36 +1,27 @@
 -- The laws of puts, by own steps.
-use Rattle.std.proofs.Common.{◌≡◌, inl, inr, ℕ, suc, ◌<◌, List, [], ◌∷◌, length, Option, Some, None}
-use Rattle.std.proofs.Common.{sym, refl, ap, ◌∙◌, subst, arith}
-use Rattle.std.proofs.lemmas.Bool.{cases_eq, cases_lt}
-use Rattle.steer_base.specs.Drops.{bucket_of, lane_drop_cause}
-use Rattle.steer_base.specs.Lanes.{LaneLists}
 use Rattle.steer_base.specs.Sets.{has}
-use Rattle.steer_base.specs.declared.put.DropCause.{DropCause}
 use Rattle.steer_base.specs.declared.put.Put.{Put}
-use Rattle.backlog.specs.Puts.{after_put, put_by}
-use Rattle.linearization.specs.Orders.{StepBy}
 use Rattle.history.specs.Lists.{lane_at as left_at}
-use Rattle.hop_rule.specs.Boards.{IsLawful, lane_at, lanes_of, lane_steps}
+use Rattle.hop_rule.specs.Boards.{lane_steps}
 use Rattle.hop_rule.specs.Fronts.{IsEarlier}
 use Rattle.hop_rule.specs.Lanes as lanes
-use Rattle.hop_rule.specs.Moments.{past}
 use Rattle.hop_rule.specs.PutLaws as put
-use Rattle.hop_rule.specs.declared.sizes.BoardSizes.{BoardSizes}
-use Rattle.hop_rule.specs.declared.step.BoardStep.{BoardStep}
 use Rattle.hop_rule.specs.declared.step.Change.{Change}
-use Rattle.hop_rule.specs.declared.step.Change.TheVariants.{Nothing, Offered, Pulled}
 use Rattle.hop_rule.specs.declared.step.LaneStep.{LaneStep}
-use Rattle.hop_rule.proofs.Boards.{put_now, step_lawful}
+use Rattle.hop_rule.proofs.Boards.{put_now}
 use Rattle.hop_rule.proofs.Cases.{lane_case}
 use Rattle.hop_rule.proofs.Fronts.{lane_later}
-use Rattle.hop_rule.proofs.Lists.{some-is}
 use Rattle.hop_rule.proofs.Puts.{each_put_is_right, each_accepted_was_put, each_drop_was_put}
-use Rattle.board_api.specs.Closings.Finals.{lists_of}
 use Rattle.board_api.specs.Lists.{IsFrontOf, IsLaneOf}
-use Rattle.board_api.specs.OwnSteps.{Has, held_before, put_step}
+use Rattle.board_api.specs.OwnSteps.{held_before}
 use Rattle.board_api.specs.Laws.Puts.{AcceptedWerePut, DropsWerePut, PutStands, PutsKeepOrder}
 use Rattle.board_api.specs.Laws.Puts.{PutsStand, PutsTakeTurns, WasPut}
-use Rattle.board_api.specs.declared.lists.BoardLists.{BoardLists}
+use Rattle.board_api.proofs.Names.{◌≡◌, inl, inr, ℕ, suc, ◌<◌, List, [], ◌∷◌, length, Option, Some}
+use Rattle.board_api.proofs.Names.{None, sym, refl, ap, ◌∙◌, subst, arith, cases_eq, cases_lt}
+use Rattle.board_api.proofs.Names.{bucket_of, lane_drop_cause, LaneLists, DropCause, after_put}
+use Rattle.board_api.proofs.Names.{put_by, StepBy, IsLawful, lane_at, lanes_of, past, BoardSizes}
+use Rattle.board_api.proofs.Names.{BoardStep, Nothing, Offered, Pulled, step_lawful, some-is}
+use Rattle.board_api.proofs.Names.{lists_of, Has, put_step, BoardLists}
 use Rattle.board_api.proofs.Left.{accepted_left, drop_left, lane_is}
 use Rattle.board_api.proofs.OwnTimes.{moments, own, same_step, when}
 

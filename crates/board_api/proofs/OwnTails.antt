@@ -1,18 +1,12 @@
 -- The laws of loaded tails, by own steps.
-use Rattle.std.proofs.Common.{◌≡◌, ℕ, ◌+◌, ◌/◌, ◌<◌, ◌≤◌, List, length, ap, arith}
-use Rattle.linearization.specs.Orders.{StepBy}
-use Rattle.history.specs.declared.lane_list.LaneList.{LaneList}
-use Rattle.hop_rule.specs.Boards.{IsLawful, accepted, out}
-use Rattle.hop_rule.specs.Moments.{past}
-use Rattle.hop_rule.specs.declared.sizes.BoardSizes.{BoardSizes}
-use Rattle.hop_rule.specs.declared.step.BoardStep.{BoardStep}
+use Rattle.hop_rule.specs.Boards.{accepted}
 use Rattle.hop_rule.specs.declared.step.BoardStep.TheVariants.{Counted, OutCounted}
-use Rattle.hop_rule.proofs.Boards.{step_lawful}
 use Rattle.hop_rule.proofs.Fronts.{count_later, out_count_later}
 use Rattle.hop_rule.proofs.Tails.{loaded_tails_are_accepted, loaded_tails_are_delivered}
-use Rattle.board_api.specs.Closings.Finals.{lists_of}
 use Rattle.board_api.specs.Laws.Heads.{OutTailsRise, TailsRise}
-use Rattle.board_api.specs.OwnSteps.{Has}
+use Rattle.board_api.proofs.Names.{◌≡◌, ℕ, ◌+◌, ◌/◌, ◌<◌, ◌≤◌, List, length, ap, arith, StepBy}
+use Rattle.board_api.proofs.Names.{LaneList, IsLawful, out, past, BoardSizes, BoardStep}
+use Rattle.board_api.proofs.Names.{step_lawful, lists_of, Has}
 use Rattle.board_api.proofs.Left.{lane_is, out_is}
 use Rattle.board_api.proofs.OwnTimes.{own, rise, step_is, when}
 

@@ -1,14 +1,10 @@
 -- Own steps at their moments of the order.
-use Rattle.std.proofs.Common.{◌≡◌, inl, inr, ℕ, ◌<◌, List, length, sym, ap, ◌∙◌, subst, arith}
-use Rattle.std.proofs.lemmas.Bool.{cases_eq, cases_lt}
-use Rattle.linearization.specs.Orders.{StepBy}
 use Rattle.hop_rule.specs.Moments.{IsStep, moment_of}
 use Rattle.hop_rule.specs.OwnLaws.{HasMoments}
-use Rattle.hop_rule.specs.Owns.{own_of}
-use Rattle.hop_rule.specs.declared.step.BoardStep.{BoardStep}
 use Rattle.hop_rule.proofs.Moments.{one-step, step-inside}
 use Rattle.hop_rule.proofs.OwnMoments.{own_steps_have_moments}
-use Rattle.board_api.specs.OwnSteps.{Has}
+use Rattle.board_api.proofs.Names.{◌≡◌, inl, inr, ℕ, ◌<◌, List, length, sym, ap, ◌∙◌, subst, arith}
+use Rattle.board_api.proofs.Names.{cases_eq, cases_lt, StepBy, own_of, BoardStep, Has}
 
 module _ (order : List (StepBy BoardStep)) where
   abbrev pub own : ℕ → List BoardStep

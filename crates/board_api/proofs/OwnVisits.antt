@@ -1,23 +1,17 @@
 -- The laws of visits and settings, by own steps.
-use Rattle.std.proofs.Common.{◌≡◌, ℕ, List, sym, ap, ◌∙◌, arith}
-use Rattle.linearization.specs.Orders.{StepBy}
-use Rattle.hop_rule.specs.Boards.{IsLawful, gate_steps}
-use Rattle.hop_rule.specs.Gates.{inside, opened, own_settings, visit}
-use Rattle.hop_rule.specs.Moments.{past}
-use Rattle.hop_rule.specs.Sizes.{FitSizes, closer}
-use Rattle.hop_rule.specs.declared.sizes.BoardSizes.{BoardSizes}
-use Rattle.hop_rule.specs.declared.step.BoardStep.{BoardStep}
-use Rattle.hop_rule.specs.declared.step.BoardStep.TheVariants.{Gate}
-use Rattle.hop_rule.specs.declared.step.GateStep.TheVariants.{Entered, Left, Read}
-use Rattle.hop_rule.proofs.Boards.{lawful_past, step_lawful}
-use Rattle.hop_rule.proofs.Moments.{nth-inside}
+use Rattle.hop_rule.specs.Gates.{inside, opened, own_settings}
+use Rattle.hop_rule.specs.Sizes.{closer}
+use Rattle.hop_rule.specs.declared.step.GateStep.TheVariants.{Entered, Left}
+use Rattle.hop_rule.proofs.Boards.{lawful_past}
 use Rattle.hop_rule.proofs.Numbers.{none_between}
 use Rattle.hop_rule.proofs.Openings.{settings_are_the_closers, visits_are_numbered}
 use Rattle.hop_rule.proofs.Openings.{visits_read_settings}
-use Rattle.board_api.specs.Closings.Finals.{lists_of}
 use Rattle.board_api.specs.Laws.Heads.{NumberedReadsAreSettings, ReadsAreSettings}
 use Rattle.board_api.specs.Laws.Heads.{VisitNumbersRise}
-use Rattle.board_api.specs.OwnSteps.{Has, ReadsIn, visit_before}
+use Rattle.board_api.specs.OwnSteps.{ReadsIn, visit_before}
+use Rattle.board_api.proofs.Names.{◌≡◌, ℕ, List, sym, ap, ◌∙◌, arith, StepBy, IsLawful, gate_steps}
+use Rattle.board_api.proofs.Names.{visit, past, FitSizes, BoardSizes, BoardStep, Gate, Read}
+use Rattle.board_api.proofs.Names.{step_lawful, nth-inside, lists_of, Has}
 use Rattle.board_api.proofs.Entries.{entry_of, length-past, nth-past}
 use Rattle.board_api.proofs.OwnTimes.{moments, own, rise, step_is, when}
 

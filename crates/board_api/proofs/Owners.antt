@@ -1,35 +1,22 @@
 -- The deliveries, pulls and retires of a lane are those of the one seat that serves it.
-use Rattle.std.proofs.Common.{◌≡◌, ◌≢◌, ℕ, ◌+◌, List, [], ◌∷◌, length, Option, Some, None, sym}
-use Rattle.std.proofs.Common.{refl, ap, ◌∙◌, subst, arith}
 use Rattle.std.specs.List.{cons_option, filter_map}
-use Rattle.std.specs.Prelude.{slice_get}
-use mathlib.Core.Logic.{dite}
-use native.Mathlib.Decide.{ℕ_discrete}
-use Rattle.steer_base.specs.Drops.{bucket_of, lane_drop_cause}
-use Rattle.steer_base.specs.Lanes.{LaneLists}
-use Rattle.steer_base.specs.declared.put.DropCause.{DropCause}
-use Rattle.backlog.specs.Puts.{after_put, put_by}
-use Rattle.linearization.specs.Orders.{StepBy, step_by}
-use Rattle.linearization.proofs.ListLemmas.{if_same, if_other}
-use Rattle.linearization.proofs.ViewLemmas.{steps_of_own, steps_of_other}
-use Rattle.hop_rule.specs.Boards.{IsLawful, MayCome, lane_at, lanes_of, retired}
-use Rattle.hop_rule.specs.Deliveries.{delivery, delivered_from}
+use Rattle.linearization.proofs.ViewLemmas.{steps_of_own}
+use Rattle.hop_rule.specs.Boards.{retired}
+use Rattle.hop_rule.specs.Deliveries.{delivery}
 use Rattle.hop_rule.specs.Lanes.{lane_changed}
-use Rattle.hop_rule.specs.Moments.{nth_step}
-use Rattle.hop_rule.specs.Owns.{own_of}
-use Rattle.hop_rule.specs.Sizes.{puller}
-use Rattle.hop_rule.specs.declared.sizes.BoardSizes.{BoardSizes}
-use Rattle.hop_rule.specs.declared.step.BoardStep.{BoardStep}
-use Rattle.hop_rule.specs.declared.step.BoardStep.TheVariants.{Lane}
-use Rattle.hop_rule.specs.declared.step.Change.TheVariants.{Nothing, Offered, Pulled}
-use Rattle.hop_rule.specs.declared.step.LaneStep.TheVariants.{Freed, Given, Retired}
+use Rattle.hop_rule.specs.declared.step.LaneStep.TheVariants.{Freed, Retired}
 use Rattle.hop_rule.proofs.Boards.{parts}
 use Rattle.hop_rule.proofs.Cases.{pick}
 use Rattle.hop_rule.proofs.Deliveries.{lanes_grow}
 use Rattle.hop_rule.proofs.Lanes.{holds}
-use Rattle.hop_rule.proofs.Lists.{none-some, some-is}
-use Rattle.board_api.specs.OwnSteps.{delivered_by, delivered_in, pulled_by, pulled_in, retired_by}
-use Rattle.board_api.specs.OwnSteps.{retired_in}
+use Rattle.board_api.specs.OwnSteps.{delivered_in, pulled_by, pulled_in, retired_by, retired_in}
+use Rattle.board_api.proofs.Names.{◌≡◌, ◌≢◌, ℕ, ◌+◌, List, [], ◌∷◌, length, Option, Some, None, sym}
+use Rattle.board_api.proofs.Names.{refl, ap, ◌∙◌, subst, arith, slice_get, dite, ℕ_discrete}
+use Rattle.board_api.proofs.Names.{bucket_of, lane_drop_cause, LaneLists, DropCause, after_put}
+use Rattle.board_api.proofs.Names.{put_by, StepBy, step_by, if_same, if_other, steps_of_other}
+use Rattle.board_api.proofs.Names.{IsLawful, MayCome, lane_at, lanes_of, delivered_from, nth_step}
+use Rattle.board_api.proofs.Names.{own_of, puller, BoardSizes, BoardStep, Lane, Nothing, Offered}
+use Rattle.board_api.proofs.Names.{Pulled, Given, none-some, some-is, delivered_by}
 
 abbrev Order : Type 0
 Order = List (StepBy BoardStep)

@@ -1,29 +1,23 @@
 -- A count that goes up with the steps of a kind is the sum of all seats' steps of that kind.
-use Rattle.std.proofs.Common.{◌≡◌, ◌≢◌, ℕ, zero, suc, ◌+◌, ◌<◌, List, [], ◌∷◌, length}
-use Rattle.std.proofs.Common.{length-append, Option, Some, None, sym, refl, ap, ◌∙◌, subst, arith}
+use Rattle.std.proofs.Common.{zero}
 use Rattle.std.specs.List.{cons_option, filter_map}
-use Rattle.steer_base.specs.Drops.{bucket_of, lane_drop_cause}
-use Rattle.steer_base.specs.Lanes.{LaneLists}
-use Rattle.steer_base.specs.declared.put.DropCause.{DropCause}
 use Rattle.steer_base.specs.declared.put.Put.{Put}
 use Rattle.steer_base.specs.declared.put.Put.TheVariants.{At, Dropped}
-use Rattle.backlog.specs.Puts.{after_put, answer_by, put_answer, put_by}
-use Rattle.linearization.specs.Orders.{StepBy, step_by}
-use Rattle.linearization.proofs.ViewLemmas.{steps_of_own, steps_of_other}
-use Rattle.hop_rule.specs.Boards.{IsLawful, MayCome, lane_at, lanes_of}
+use Rattle.backlog.specs.Puts.{answer_by, put_answer}
+use Rattle.linearization.proofs.ViewLemmas.{steps_of_own}
 use Rattle.hop_rule.specs.Events.{sum_below}
 use Rattle.hop_rule.specs.Lanes as lanes
-use Rattle.hop_rule.specs.Owns.{own_of}
-use Rattle.hop_rule.specs.declared.sizes.BoardSizes.{BoardSizes}
-use Rattle.hop_rule.specs.declared.step.BoardStep.{BoardStep}
-use Rattle.hop_rule.specs.declared.step.BoardStep.TheVariants.{Lane}
-use Rattle.hop_rule.specs.declared.step.Change.TheVariants.{Nothing, Offered, Pulled}
 use Rattle.hop_rule.specs.declared.step.LaneStep.TheVariants.{Freed}
 use Rattle.hop_rule.proofs.Boards.{parts}
 use Rattle.hop_rule.proofs.Cases.{pick}
 use Rattle.hop_rule.proofs.Gates.{sum_one}
 use Rattle.hop_rule.proofs.Lanes.{holds}
 use Rattle.board_api.specs.OwnSteps.{accepted_by, accepted_in, dropped_by, dropped_in}
+use Rattle.board_api.proofs.Names.{◌≡◌, ◌≢◌, ℕ, suc, ◌+◌, ◌<◌, List, [], ◌∷◌, length, length-append}
+use Rattle.board_api.proofs.Names.{Option, Some, None, sym, refl, ap, ◌∙◌, subst, arith, bucket_of}
+use Rattle.board_api.proofs.Names.{lane_drop_cause, LaneLists, DropCause, after_put, put_by, StepBy}
+use Rattle.board_api.proofs.Names.{step_by, steps_of_other, IsLawful, MayCome, lane_at, lanes_of}
+use Rattle.board_api.proofs.Names.{own_of, BoardSizes, BoardStep, Lane, Nothing, Offered, Pulled}
 
 abbrev Order : Type 0
 Order = List (StepBy BoardStep)

@@ -1,5 +1,5 @@
-use Rattle.hop_rule.specs.Owns.{own_of}
 use Rattle.board_api.specs.Laws.Lanes.{ListsAreCounted}
+use Rattle.board_api.proofs.Names.{own_of}
 use Rattle.board_api.proofs.Endings.{at_closings}
 use Rattle.board_api.proofs.OutSums.{lists_are_counted}
 use Rattle.board_api.proofs.laws.all_lanes_are_left.Goals as goal
