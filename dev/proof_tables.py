@@ -80,11 +80,14 @@ def found():
 
 
 def proof_of(crate, module, name):
-    """The file that proves a law and the lemmas that it cites, if it needs one."""
+    """The file that proves a law and the lemmas of its crate that it cites, if it needs one.
+
+    The crate's proofs/Names.antt is none of them: it passes on names of specs and other crates.
+    """
     path = f"crates/{crate}/proofs/{module}/{name}/Answers.antt"
     if not os.path.exists(os.path.join(specs.ROOT, path)):
         return "found by the check"
-    cited = re.findall(rf"^use Rattle\.({crate}\.proofs\.[\w.]+)\.\{{([^}}]*)\}}",
+    cited = re.findall(rf"^use Rattle\.({crate}\.proofs\.(?!Names\.)[\w.]+)\.\{{([^}}]*)\}}",
                        specs.read(path), re.M)
     lemmas = [f"`{m.split('.proofs.')[1].replace('.', '/')}` {n}" for m, n in cited]
     return "; ".join(lemmas) or f"`{path.split('/proofs/')[1]}`"
