@@ -1,45 +1,36 @@
 -- Steps at the gate and at settings, and loads of heads and of lanes' words.
-use Rattle.std.proofs.Common.{◌≡◌, ◌≢◌, ℕ, ◌+◌, ◌-◌, ◌*◌, ◌%◌, ◌^◌, ◌<◌, ◌==◌, List, ◌∷◌, Bool}
-use Rattle.std.proofs.Common.{true}
-use Rattle.std.proofs.Common.{false, length, if◌then◌else◌, sym, refl, ap, ◌∙◌, subst, arith}
 use Rattle.std.proofs.Common.{eq-eqb, ne_eqb}
 use Rattle.std.specs.Prelude.{◌⊎◌}
 use Rattle.std.proofs.lemmas.Bool.{leb-true, leb-false}
-use mathlib.Core.Logic.{dite}
-use native.Mathlib.Decide.{ℕ_discrete}
 use prog.Atomic.{either}
-use Rattle.linearization.specs.Orders.{StepBy, step_by, steps_of}
-use Rattle.linearization.specs.Seats.{SeatView}
-use Rattle.linearization.proofs.ListLemmas.{if_same, if_other}
-use Rattle.hop_rule.specs.declared.sizes.BoardSizes.{BoardSizes}
 use Rattle.hop_rule.specs.declared.sizes.TheConstants.{MAX_OPENINGS}
-use Rattle.hop_rule.specs.declared.step.BoardStep.{BoardStep}
-use Rattle.hop_rule.specs.declared.step.BoardStep.TheVariants.{Lane, Gate, Weighed, Counted}
-use Rattle.hop_rule.specs.declared.step.BoardStep.TheVariants.{OutCounted}
+use Rattle.hop_rule.specs.declared.step.BoardStep.TheVariants.{Weighed, Counted, OutCounted}
 use Rattle.hop_rule.specs.declared.step.GateStep.{GateStep}
 use Rattle.hop_rule.specs.declared.step.GateStep.TheVariants.{Entered, Turned, Left, Shut, NotShut}
 use Rattle.hop_rule.specs.declared.step.GateStep.TheVariants.{Opened, Set, Read}
-use Rattle.hop_rule.specs.declared.step.LaneStep.{LaneStep}
 use Rattle.hop_rule.specs.declared.step.LaneStep.TheVariants.{Retired}
-use Rattle.hop_rule.specs.Boards.{lanes_of, gates_of, gate_steps, lane_steps, IsLawful}
+use Rattle.hop_rule.specs.Boards.{gates_of}
 use Rattle.hop_rule.specs.Gates as gates
 use Rattle.hop_rule.specs.Lanes as lanes
-use Rattle.hop_rule.specs.Sizes.{FitSizes, closer}
-use Rattle.hop_rule.proofs.Boards.{parts, few}
+use Rattle.hop_rule.specs.Sizes.{closer}
+use Rattle.hop_rule.proofs.Boards.{few}
 use Rattle.hop_rule.proofs.Gates.{enter_finds, enter_word, leave_word, close_finds, closes, small}
 use Rattle.hop_rule.proofs.Gates.{word, sum_most, open_small}
 use Rattle.hop_rule.proofs.Owns.{gates_own, lanes_own}
 use Rattle.board_api.specs.Calls.Rights.{IsOutside, HasOpen, HasClosed, IsCloser, MayRead, Pulls}
 use Rattle.board_api.specs.Calls.Rights.{HasDelivered}
 use Rattle.board_api.specs.StepWords.{is_marked}
-use Rattle.board_api.specs.declared.held_lane.LaneId.{LaneId}
 use Rattle.board_api.specs.declared.held_lane.LaneId.TheVariants as id
-use Rattle.hop_board.specs.declared.places.Word.{Word}
 use Rattle.hop_board.specs.declared.places.Word.TheVariants as kind
 use Rattle.hop_board.specs.Makings.{FindsOpen, IsBusy, MayLoad, closing, entering, loaded}
-use Rattle.hop_board.specs.Steps.{IsStepAt, MayAct}
-use Rattle.hop_board.specs.Tables.{IsWord, value, value_by}
-use Rattle.hop_board.specs.Tables.{home_after}
+use Rattle.hop_board.specs.Steps.{IsStepAt}
+use Rattle.hop_board.specs.Tables.{value_by}
+use Rattle.hop_board.proofs.Names.{◌≡◌, ◌≢◌, ℕ, ◌+◌, ◌-◌, ◌*◌, ◌%◌, ◌^◌, ◌<◌, ◌==◌, List, ◌∷◌, Bool}
+use Rattle.hop_board.proofs.Names.{true, false, length, if◌then◌else◌, sym, refl, ap, ◌∙◌, subst}
+use Rattle.hop_board.proofs.Names.{arith, dite, ℕ_discrete, StepBy, step_by, steps_of, SeatView}
+use Rattle.hop_board.proofs.Names.{if_same, if_other, BoardSizes, BoardStep, Lane, Gate, LaneStep}
+use Rattle.hop_board.proofs.Names.{lanes_of, gate_steps, lane_steps, IsLawful, FitSizes, parts}
+use Rattle.hop_board.proofs.Names.{LaneId, Word, MayAct, IsWord, value, home_after}
 
 abbrev Order : Type 0
 Order = List (StepBy BoardStep)

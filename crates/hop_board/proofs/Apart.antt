@@ -1,17 +1,14 @@
 -- Each word and each slot of a board has a place of its own.
-use Rattle.std.proofs.Common.{◌≡◌, ◌≢◌, ℕ, ◌+◌, ◌*◌, ◌/◌, ◌<◌, ◌≤◌, inl, inr, refl, sym, ap, ◌∙◌}
-use Rattle.std.proofs.Common.{arith}
+use Rattle.std.proofs.Common.{◌/◌, inl, inr}
 use Rattle.std.proofs.lemmas.Bool.{cases_order}
-use Rattle.hop_rule.specs.declared.sizes.BoardSizes.{BoardSizes}
-use Rattle.board_api.specs.Calls.HeldLanes.{FitsLane}
-use Rattle.board_api.specs.declared.held_lane.LaneId.{LaneId}
 use Rattle.board_api.specs.declared.held_lane.LaneId.TheVariants as id
 use Rattle.hop_board.specs.CacheLines.{AreALineApart, ContendedWordsLieApart, IsContended}
-use Rattle.hop_board.specs.declared.places.TheConstants.{SLOTS_PER_LANE, WORDS_PER_LINE}
-use Rattle.hop_board.specs.declared.places.Word.{Word}
+use Rattle.hop_board.specs.declared.places.TheConstants.{WORDS_PER_LINE}
 use Rattle.hop_board.specs.declared.places.Word.TheVariants as kind
-use Rattle.hop_board.specs.Tables.{all_slots, home_at, home_of, slot_at, slot_of, slots, place}
-use Rattle.hop_board.specs.Tables.{width, IsWord}
+use Rattle.hop_board.specs.Tables.{slot_at, slots}
+use Rattle.hop_board.proofs.Names.{◌≡◌, ◌≢◌, ℕ, ◌+◌, ◌*◌, ◌<◌, ◌≤◌, refl, sym, ap, ◌∙◌, arith}
+use Rattle.hop_board.proofs.Names.{BoardSizes, FitsLane, LaneId, SLOTS_PER_LANE, Word, all_slots}
+use Rattle.hop_board.proofs.Names.{home_at, home_of, slot_of, place, width, IsWord}
 
 module _ (about : BoardSizes) where
   pub slot_inside : (x : LaneId) → FitsLane about x → slot_of about x < slots about

@@ -1,23 +1,11 @@
 -- What a board leaves is what its order of steps leaves.
-use Rattle.std.proofs.Common.{◌≡◌, ◌≢◌, ℕ, zero, suc, ◌+◌, ◌<◌, List, [], ◌∷◌, All, Some, None}
-use Rattle.std.proofs.Common.{map, length, slice_index_or, sym, refl, ap, ◌∙◌, subst, arith}
 use Rattle.std.specs.List.{Contains, range_with_len}
-use Rattle.std.proofs.lemmas.List.Elements.{All-head, All-tail}
-use mathlib.Core.Logic.{dite}
-use mathlib.Core.Option.{some}
-use native.Mathlib.Decide.{ℕ_discrete}
 use Rattle.linearization.specs.Closings.{Ends}
-use Rattle.linearization.specs.Orders.{StepBy, steps_of}
-use Rattle.linearization.specs.Seats.{SeatView, HasPart, IsByOne, numbers_of}
+use Rattle.linearization.specs.Seats.{HasPart, IsByOne, numbers_of}
 use Rattle.linearization.proofs.ViewLemmas.{steps_of_other}
-use Rattle.hop_rule.specs.declared.sizes.BoardSizes.{BoardSizes}
-use Rattle.hop_rule.specs.declared.step.BoardStep.{BoardStep}
-use Rattle.hop_rule.specs.declared.step.LaneStep.{LaneStep}
-use Rattle.hop_rule.specs.Boards.{IsLawful, lane_at, lanes_of, out, retired}
+use Rattle.hop_rule.specs.Boards.{out, retired}
 use Rattle.hop_rule.specs.Deliveries.{delivered_from}
 use Rattle.hop_rule.specs.Lanes as lanes
-use Rattle.hop_rule.specs.Sizes.{FitSizes, puller}
-use Rattle.hop_rule.proofs.Boards.{parts}
 use Rattle.hop_rule.proofs.Closings.{held_is, out_held_is}
 use Rattle.hop_rule.proofs.Deliveries.{facts, gone, waiting}
 use Rattle.hop_rule.proofs.Lanes.{counted}
@@ -25,13 +13,16 @@ use Rattle.hop_rule.proofs.Lists.{none-some}
 use Rattle.hop_rule.proofs.Owns.{lanes_own}
 use Rattle.board_api.specs.Closings.Closings.{HasEnded, IsAtRest}
 use Rattle.board_api.specs.Closings.Finals.{lane_list}
-use Rattle.board_api.specs.Calls.HeldLanes.{FitsLane}
-use Rattle.board_api.specs.Seats.{BoardSeatView, ordered_seat}
-use Rattle.board_api.specs.declared.held_lane.LaneId.{LaneId}
+use Rattle.board_api.specs.Seats.{ordered_seat}
 use Rattle.board_api.specs.declared.held_lane.LaneId.TheVariants as id
 use Rattle.board_api.specs.declared.lists.BoardLists.{BoardLists}
 use Rattle.hop_board.specs.Left.{AllLie, LiesIn, lists_left, middle_left, out_left}
-use Rattle.hop_board.specs.Tables.{HasBoard, InSlot, content, home_of}
+use Rattle.hop_board.proofs.Names.{◌≡◌, ◌≢◌, ℕ, zero, suc, ◌+◌, ◌<◌, List, [], ◌∷◌, All, Some, None}
+use Rattle.hop_board.proofs.Names.{map, length, slice_index_or, sym, refl, ap, ◌∙◌, subst, arith}
+use Rattle.hop_board.proofs.Names.{All-head, All-tail, dite, some, ℕ_discrete, StepBy, steps_of}
+use Rattle.hop_board.proofs.Names.{SeatView, BoardSizes, BoardStep, LaneStep, IsLawful, lane_at}
+use Rattle.hop_board.proofs.Names.{lanes_of, FitSizes, puller, parts, FitsLane, BoardSeatView}
+use Rattle.hop_board.proofs.Names.{LaneId, HasBoard, InSlot, content, home_of}
 use Rattle.hop_board.proofs.Keeps.{holder_of, home_is}
 use Rattle.hop_board.proofs.Taking.{at_or}
 

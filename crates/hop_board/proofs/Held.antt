@@ -1,45 +1,37 @@
 -- Lanes that seats take and give back, as the calls tell it.
-use Rattle.std.proofs.Common.{◌≡◌, ℕ, zero, suc, if◌then◌else◌, ◌+◌, ◌<◌, ◌≤◌, List, [], ◌∷◌}
-use Rattle.std.proofs.Common.{◌++◌, Bool, true, false, Option}
-use Rattle.std.proofs.Common.{Some, None, length, sym, refl, ap, ◌∙◌, subst, arith, length-append}
+use Rattle.std.proofs.Common.{Option}
 use Rattle.std.specs.Prelude.{slice_get}
 use Rattle.std.proofs.lemmas.Bool.{le-ltb, lt-ltb}
-use Rattle.steer_base.specs.Lanes.{LaneLists}
 use Rattle.steer_base.specs.Drops.{bucket_of, lane_drop_cause}
 use Rattle.steer_base.specs.declared.put.DropCause.{DropCause}
 use Rattle.steer_base.specs.declared.put.Put.{Put}
 use Rattle.steer_base.specs.declared.put.Put.TheVariants.{At, Dropped}
 use Rattle.backlog.specs.Puts.{after_put, after_take, answer_by, next_waiting, put_answer, put_by}
 use Rattle.backlog.specs.Puts.{put_count}
-use Rattle.linearization.specs.Seats.{SeatView}
-use Rattle.hop_rule.specs.declared.sizes.BoardSizes.{BoardSizes}
-use Rattle.hop_rule.specs.declared.step.BoardStep.{BoardStep}
-use Rattle.hop_rule.specs.declared.step.BoardStep.TheVariants.{LaneOut}
 use Rattle.hop_rule.specs.declared.step.Change.TheVariants as change
-use Rattle.hop_rule.specs.declared.step.Slot.{Slot}
 use Rattle.hop_rule.specs.declared.step.Slot.TheVariants as slot
-use Rattle.hop_rule.specs.Boards.{gate_steps, lane_steps, lanes_of, own_state}
 use Rattle.hop_rule.specs.Boards.{empty}
 use Rattle.hop_rule.specs.Gates as gates
 use Rattle.hop_rule.specs.Lanes as lanes
-use Rattle.hop_rule.specs.OutLanes.{OutList, out_list}
-use Rattle.hop_rule.specs.Sizes.{puller}
 use Rattle.hop_rule.proofs.Lists.{get-inside, none-some}
 use Rattle.hop_rule.proofs.Owns.{lane_room}
-use Rattle.board_api.specs.Calls.HeldLanes.{FitsLane, IsMiddle, IsOut, Holds}
+use Rattle.board_api.specs.Calls.HeldLanes.{Holds}
 use Rattle.board_api.specs.Calls.Results.{HoldTells, Took}
 use Rattle.board_api.specs.declared.answers.Hold.TheVariants as hold
-use Rattle.board_api.specs.declared.held_lane.HeldLane.{HeldLane}
 use Rattle.board_api.specs.declared.held_lane.HeldLane.TheVariants as held
-use Rattle.board_api.specs.declared.held_lane.LaneId.{LaneId}
 use Rattle.board_api.specs.declared.held_lane.LaneId.TheVariants as id
 use Rattle.board_api.proofs.AddedSteps.{taken_lanes_are_held}
 use Rattle.hop_board.specs.Makings.{TookSlot}
-use Rattle.hop_board.specs.Named.{board_seat, held_by, held_lane_id, content_of}
-use Rattle.hop_board.specs.Releases.{is_told, step_in, rises_by}
-use Rattle.hop_board.specs.Steps.{MayGive}
-use Rattle.hop_board.specs.Tables.{slot_of}
-use Rattle.hop_board.specs.declared.release.Release.TheVariants.{Unchanged, Offered, Pulled, Given}
+use Rattle.hop_board.specs.Named.{held_by, held_lane_id, content_of}
+use Rattle.hop_board.specs.Releases.{rises_by}
+use Rattle.hop_board.specs.declared.release.Release.TheVariants.{Offered, Pulled, Given}
+use Rattle.hop_board.proofs.Names.{◌≡◌, ℕ, zero, suc, if◌then◌else◌, ◌+◌, ◌<◌, ◌≤◌, List, [], ◌∷◌}
+use Rattle.hop_board.proofs.Names.{◌++◌, Bool, true, false, Some, None, length, sym, refl, ap, ◌∙◌}
+use Rattle.hop_board.proofs.Names.{subst, arith, length-append, LaneLists, SeatView, BoardSizes}
+use Rattle.hop_board.proofs.Names.{BoardStep, LaneOut, Slot, gate_steps, lane_steps, lanes_of}
+use Rattle.hop_board.proofs.Names.{own_state, OutList, out_list, puller, FitsLane, IsMiddle, IsOut}
+use Rattle.hop_board.proofs.Names.{HeldLane, LaneId, board_seat, is_told, step_in, MayGive, slot_of}
+use Rattle.hop_board.proofs.Names.{Unchanged}
 use Rattle.hop_board.proofs.Releases.{gives_middle, gives_out, gives_packet, risen}
 use Rattle.hop_board.proofs.Told.{accepted_below, out_below}
 

@@ -1,49 +1,35 @@
 -- Steps of seats keep the rule of a board.
-use Rattle.std.proofs.Common.{◌≡◌, ◌≢◌, ℕ, zero, suc, ◌+◌, ◌*◌, ◌/◌, ◌%◌, ◌<◌, max, List, [], ◌∷◌}
-use Rattle.std.proofs.Common.{length, get_or, set, slice_index, sym, refl, ap, ◌∙◌, subst, arith}
-use Rattle.std.proofs.Common.{length-set, get_or-set_same, get_or-set_other, Some, None, bit_or}
-use Rattle.std.proofs.Common.{Bool, true, false, ◌==◌, if◌then◌else◌}
+use Rattle.std.proofs.Common.{◌/◌, max, length-set, bit_or}
 use Rattle.std.proofs.lemmas.Nat.{or_comm}
-use mathlib.Core.Logic.{dite}
-use mathlib.Core.Option.{Option, none, some}
-use native.Mathlib.Decide.{ℕ_discrete}
+use mathlib.Core.Option.{Option, none}
 use lib.ListN.{get_elem?}
 use lib.Bits.{or_step}
 use Rattle.atomic_table.specs.Table.{Me, step, Step, keeps, takes, gives, homes_after, Allows}
 use Rattle.atomic_table.proofs.Lists.{set_here, set_else}
 use Rattle.linearization.specs.declared.hands.Hands.{Hands}
-use Rattle.linearization.specs.Orders.{StepBy, step_by, steps_of}
-use Rattle.linearization.specs.Views.{one, number_in, steps_in}
-use Rattle.linearization.specs.Rules.{Ordered, Made, Moved}
-use Rattle.linearization.specs.Seats.{SeatView, seat_view}
-use Rattle.atomic_table.specs.Seated.{TableId}
+use Rattle.linearization.specs.Rules.{Made, Moved}
 use Rattle.linearization.proofs.RuleLemmas.{goes, moves, moves_taking}
-use Rattle.linearization.proofs.ListLemmas.{if_same, if_other}
-use Rattle.hop_rule.specs.declared.sizes.BoardSizes.{BoardSizes}
-use Rattle.hop_rule.specs.declared.step.BoardStep.{BoardStep}
-use Rattle.hop_rule.specs.declared.step.BoardStep.TheVariants.{Lane, LaneOut, LaneIn}
-use Rattle.hop_rule.specs.declared.step.LaneStep.{LaneStep}
 use Rattle.hop_rule.specs.declared.step.LaneStep.TheVariants.{Held, OutHeld}
-use Rattle.hop_rule.specs.declared.step.Slot.{Slot}
 use Rattle.hop_rule.specs.declared.step.Slot.TheVariants as slot
 use Rattle.hop_rule.specs.Lanes as lanes
-use Rattle.hop_rule.specs.Boards.{IsLawful, MayCome, lanes_of, taken, empty, slot_state}
-use Rattle.hop_rule.specs.Boards.{own_state, SlotState}
-use Rattle.hop_rule.specs.Sizes.{FitSizes}
+use Rattle.hop_rule.specs.Boards.{MayCome, taken, empty, slot_state, SlotState}
 use Rattle.hop_rule.proofs.Slots.{agrees, out_agrees, is_out}
-use Rattle.board_api.specs.Calls.HeldLanes.{FitsLane}
 use Rattle.board_api.specs.StepWords.{is_odd}
 use Rattle.board_api.specs.Calls.Results.{MissedAt}
-use Rattle.board_api.specs.declared.held_lane.LaneId.{LaneId}
 use Rattle.board_api.specs.declared.held_lane.LaneId.TheVariants as id
-use Rattle.hop_board.specs.declared.places.Word.{Word}
 use Rattle.hop_board.specs.declared.places.Word.TheVariants as kind
-use Rattle.hop_board.specs.Tables.{InSlot, all_slots, home_of, slot_of}
-use Rattle.hop_board.specs.Tables.{place, IsWord, content, lane_value}
-use Rattle.hop_board.specs.Tables.{value, home_by, home_after, HomesAre, HasBoard}
-use Rattle.hop_board.specs.Steps.{MayAct, MayGive, released_word}
-use Rattle.hop_board.specs.Plays.{HeldAt, Carried, HoldsThen, EmptiesThen, FillsThen}
-use Rattle.hop_board.specs.Plays.{GivesThen}
+use Rattle.hop_board.specs.Tables.{lane_value, home_by, HomesAre}
+use Rattle.hop_board.specs.Plays.{Carried, HoldsThen, EmptiesThen, FillsThen, GivesThen}
+use Rattle.hop_board.proofs.Names.{◌≡◌, ◌≢◌, ℕ, zero, suc, ◌+◌, ◌*◌, ◌%◌, ◌<◌, List, [], ◌∷◌}
+use Rattle.hop_board.proofs.Names.{length, get_or, set, slice_index, sym, refl, ap, ◌∙◌, subst}
+use Rattle.hop_board.proofs.Names.{arith, get_or-set_same, get_or-set_other, Some, None, Bool, true}
+use Rattle.hop_board.proofs.Names.{false, ◌==◌, if◌then◌else◌, dite, some, ℕ_discrete, StepBy}
+use Rattle.hop_board.proofs.Names.{step_by, steps_of, one, number_in, steps_in, Ordered, SeatView}
+use Rattle.hop_board.proofs.Names.{seat_view, TableId, if_same, if_other, BoardSizes, BoardStep}
+use Rattle.hop_board.proofs.Names.{Lane, LaneOut, LaneIn, LaneStep, Slot, IsLawful, lanes_of}
+use Rattle.hop_board.proofs.Names.{own_state, FitSizes, FitsLane, LaneId, Word, InSlot, all_slots}
+use Rattle.hop_board.proofs.Names.{home_of, slot_of, place, IsWord, content, value, home_after}
+use Rattle.hop_board.proofs.Names.{HasBoard, MayAct, MayGive, released_word, HeldAt}
 use Rattle.hop_board.proofs.Apart.{home_inside, home_is_at, same_lane, same_word, slot_inside}
 use Rattle.hop_board.proofs.Apart.{slot_is_at, place_inside}
 

@@ -1,34 +1,23 @@
 -- What a seat keeps besides its steps, after more of them.
-use Rattle.std.proofs.Common.{◌≡◌, ◌≢◌, ℕ, ◌<◌, Bool, List, [], ◌∷◌, ◌++◌, Result, Ok, Err}
-use Rattle.std.proofs.Common.{MatchResult, set}
-use Rattle.std.proofs.Common.{slice_index, length, sym, ap, ◌∙◌, subst, arith, get_or-set_same}
-use Rattle.std.proofs.Common.{get_or-set_other}
-use mathlib.Core.Logic.{dite}
-use native.Mathlib.Decide.{ℕ_discrete}
+use Rattle.std.proofs.Common.{Result, Ok, Err, MatchResult}
 use Rattle.steer_base.specs.declared.cpu_mask.CpuMask.{CpuMask}
-use Rattle.linearization.specs.Seats.{SeatView}
-use Rattle.linearization.proofs.ListLemmas.{if_same, if_other}
-use Rattle.hop_rule.specs.declared.sizes.BoardSizes.{BoardSizes}
-use Rattle.hop_rule.specs.declared.step.BoardStep.{BoardStep}
-use Rattle.hop_rule.specs.declared.step.BoardStep.TheVariants.{Lane, LaneIn, LaneOut}
 use Rattle.hop_rule.specs.declared.step.Change.TheVariants.{Pulled}
 use Rattle.hop_rule.specs.declared.step.LaneStep.TheVariants.{Freed, Given}
 use Rattle.hop_rule.specs.declared.step.LaneStep.TheVariants.{Retired}
-use Rattle.hop_rule.specs.declared.step.Slot.{Slot}
 use Rattle.hop_rule.specs.declared.step.Slot.TheVariants as slot
-use Rattle.hop_rule.specs.Boards.{lane_steps}
-use Rattle.hop_rule.specs.Lanes.{Phase, gave, has_pulled, idle, phase}
-use Rattle.board_api.specs.Seats.{BoardSeatView, KeepsSteps}
+use Rattle.hop_rule.specs.Lanes.{Phase, gave, has_pulled, idle}
+use Rattle.board_api.specs.Seats.{KeepsSteps}
 use Rattle.board_api.specs.Calls.Results.{EmptiedTells, Looked, MissedAt, looking}
 use Rattle.board_api.specs.declared.answers.Emptied.{Emptied}
 use Rattle.board_api.specs.declared.answers.Emptied.TheVariants as emptied
-use Rattle.board_api.specs.declared.held_lane.LaneId.{LaneId}
 use Rattle.board_api.specs.declared.held_lane.LaneId.TheVariants as id
 use Rattle.hop_board.specs.Emptying.{emptied_after}
-use Rattle.hop_board.specs.Named.{board_seat}
 use Rattle.hop_board.specs.Makings.{TookSlot, MissedSlot}
-use Rattle.hop_board.specs.Plays.{HeldAt}
-use Rattle.hop_board.specs.Tables.{slot_of}
+use Rattle.hop_board.proofs.Names.{◌≡◌, ◌≢◌, ℕ, ◌<◌, Bool, List, [], ◌∷◌, ◌++◌, set, slice_index}
+use Rattle.hop_board.proofs.Names.{length, sym, ap, ◌∙◌, subst, arith, get_or-set_same}
+use Rattle.hop_board.proofs.Names.{get_or-set_other, dite, ℕ_discrete, SeatView, if_same, if_other}
+use Rattle.hop_board.proofs.Names.{BoardSizes, BoardStep, Lane, LaneIn, LaneOut, Slot, lane_steps}
+use Rattle.hop_board.proofs.Names.{phase, BoardSeatView, LaneId, board_seat, HeldAt, slot_of}
 
 module _ (pulled : List ℕ) (opened visit : ℕ) where
   abbrev Keeps : List BoardStep → Type 0

@@ -6,6 +6,7 @@ pub mod Held
 pub mod Keeps
 pub mod Kept
 pub mod Looks
+pub mod Names
 pub mod Opening
 pub mod Releases
 pub mod Taking

@@ -1,20 +1,16 @@
 -- Lanes that are looked at.
-use Rattle.std.proofs.Common.{◌≡◌, ◌≢◌, ℕ, zero, suc, ◌+◌, ◌-◌, ◌<◌, List, [], ◌∷◌, ◌++◌, Bool}
-use Rattle.std.proofs.Common.{true, false}
-use Rattle.std.proofs.Common.{All, cond, map, sym, refl, ap, ◌∙◌, arith, append-nil}
-use Rattle.std.proofs.Common.{append_assoc}
-use Rattle.std.proofs.lemmas.List.Elements.{All-cons, All-head, All-nil, All-tail}
+use Rattle.std.proofs.Common.{cond, append-nil, append_assoc}
+use Rattle.std.proofs.lemmas.List.Elements.{All-cons, All-nil}
 use Rattle.steer_base.specs.Sets.{has, those_below}
 use Rattle.steer_base.specs.declared.cpu_mask.CpuMask.{CpuMask}
 use Rattle.steer_base.proofs.SetsLemmas.{those_below-more}
-use Rattle.linearization.specs.Seats.{SeatView}
-use Rattle.hop_rule.specs.declared.sizes.BoardSizes.{BoardSizes}
-use Rattle.hop_rule.specs.declared.step.BoardStep.{BoardStep}
 use Rattle.board_api.specs.StepWords.{low_half, tail_in}
 use Rattle.board_api.specs.Calls.Results.{EmptiedTells, IsEmpty, Looked, looking}
 use Rattle.board_api.specs.declared.answers.Emptied.TheVariants as emptied
 use Rattle.hop_board.specs.Emptying.{emptied_after}
-use Rattle.hop_board.specs.Named.{board_seat}
+use Rattle.hop_board.proofs.Names.{◌≡◌, ◌≢◌, ℕ, zero, suc, ◌+◌, ◌-◌, ◌<◌, List, [], ◌∷◌, ◌++◌, Bool}
+use Rattle.hop_board.proofs.Names.{true, false, All, map, sym, refl, ap, ◌∙◌, arith, All-head}
+use Rattle.hop_board.proofs.Names.{All-tail, SeatView, BoardSizes, BoardStep, board_seat}
 
 -- the lanes of the set below n were looked at, and each was found empty
 pub record LooksBelow (mask : CpuMask) (n : ℕ) (old new : SeatView BoardStep) : Type 0 where

@@ -1,37 +1,28 @@
 -- A board before any step has its words and slots.
-use Rattle.std.proofs.Common.{◌≡◌, ℕ, zero, suc, ◌+◌, ◌-◌, ◌*◌, ◌<◌, false, List, [], ◌∷◌, ◌++◌}
-use Rattle.std.proofs.Common.{All}
-use Rattle.std.proofs.Common.{None, Some, get_or, length, map, replicate, reverse, sym, refl}
-use Rattle.std.proofs.Common.{ap, ◌∙◌, subst}
-use Rattle.std.proofs.Common.{arith, length-append}
 use Rattle.std.proofs.lemmas.List.{append_assoc, get_or_append_left, get_or-append_right}
 use Rattle.std.proofs.lemmas.List.{reverse-append}
-use Rattle.std.proofs.lemmas.List.Elements.{All-nil, All-cons, All-head, All-tail}
-use Rattle.std.proofs.lemmas.List.FromFn.{get_or-map-range_with_len, length-map-range_with_len}
-use mathlib.Core.Logic.{dite}
-use mathlib.Core.Option.{some}
-use native.Mathlib.Decide.{ℕ_discrete}
+use Rattle.std.proofs.lemmas.List.Elements.{All-nil, All-cons}
+use Rattle.std.proofs.lemmas.List.FromFn.{get_or-map-range_with_len}
 use lib.ListN.{get_or-replicate, length-replicate}
-use Rattle.atomic_table.specs.Seated.{TableId}
 use Rattle.atomic_table.specs.Table.{opening}
 use Rattle.atomic_table.proofs.Lists.{at_index, at_map}
 use Rattle.linearization.specs.Views.{all_hands}
-use Rattle.linearization.specs.Rules.{Ordered}
-use Rattle.linearization.specs.Seats.{SeatView, new_seats, seat_view}
+use Rattle.linearization.specs.Seats.{new_seats}
 use Rattle.linearization.proofs.ViewLemmas.{views_open}
-use Rattle.hop_rule.specs.declared.sizes.BoardSizes.{BoardSizes}
-use Rattle.hop_rule.specs.declared.step.BoardStep.{BoardStep}
-use Rattle.board_api.specs.Calls.HeldLanes.{FitsLane}
-use Rattle.board_api.specs.Seats.{BoardSeatView}
-use Rattle.board_api.specs.declared.held_lane.LaneId.{LaneId}
 use Rattle.board_api.specs.declared.held_lane.LaneId.TheVariants as id
 use Rattle.hop_board.specs.Made.{apart_of, head_words, lane_slots, lane_words, line_of, lines_of}
-use Rattle.hop_board.specs.Made.{new_middle, new_middles, new_outs, new_slots, new_words, spaced}
-use Rattle.hop_board.specs.Named.{HasNoSteps, board_seat}
-use Rattle.hop_board.specs.Tables.{HasBoard, HomesAre, InSlot, WordsAre, all_slots, content}
-use Rattle.hop_board.specs.Tables.{home_of, lines, slot_of, slots, width}
-use Rattle.hop_board.specs.declared.places.TheConstants.{SLOTS_PER_LANE, WORDS_PER_LINE}
+use Rattle.hop_board.specs.Made.{new_middles, new_outs, new_slots, new_words}
+use Rattle.hop_board.specs.Tables.{HomesAre, WordsAre, lines, slots}
+use Rattle.hop_board.specs.declared.places.TheConstants.{WORDS_PER_LINE}
 use Rattle.hop_board.specs.declared.places.Word.TheVariants as kind
+use Rattle.hop_board.proofs.Names.{◌≡◌, ℕ, zero, suc, ◌+◌, ◌-◌, ◌*◌, ◌<◌, false, List, [], ◌∷◌}
+use Rattle.hop_board.proofs.Names.{◌++◌, All, None, Some, get_or, length, map, replicate, reverse}
+use Rattle.hop_board.proofs.Names.{sym, refl, ap, ◌∙◌, subst, arith, length-append, All-head}
+use Rattle.hop_board.proofs.Names.{All-tail, length-map-range_with_len, dite, some, ℕ_discrete}
+use Rattle.hop_board.proofs.Names.{TableId, Ordered, SeatView, seat_view, BoardSizes, BoardStep}
+use Rattle.hop_board.proofs.Names.{FitsLane, BoardSeatView, LaneId, new_middle, spaced, HasNoSteps}
+use Rattle.hop_board.proofs.Names.{board_seat, HasBoard, InSlot, all_slots, content, home_of}
+use Rattle.hop_board.proofs.Names.{slot_of, width, SLOTS_PER_LANE}
 
 -- ---- lines, and the first words of each
 

@@ -1,37 +1,25 @@
 -- Lanes that are given back.
-use Rattle.std.proofs.Common.{◌≡◌, ◌≢◌, ℕ, ◌+◌, ◌*◌, ◌<◌, ◌≤◌, ◌==◌, List, []}
-use Rattle.std.proofs.Common.{◌∷◌, ◌++◌, Bool, true, false, Some, length, if◌then◌else◌, sym, refl}
-use Rattle.std.proofs.Common.{ap}
-use Rattle.std.proofs.Common.{◌∙◌, subst, arith, length-append}
-use Rattle.steer_base.specs.Lanes.{LaneLists}
-use Rattle.linearization.specs.Orders.{StepBy, step_by, steps_of}
-use Rattle.linearization.specs.Seats.{SeatView}
-use Rattle.linearization.proofs.ListLemmas.{if_same, if_other}
-use Rattle.hop_rule.specs.declared.sizes.BoardSizes.{BoardSizes}
 use Rattle.hop_rule.specs.declared.sizes.TheConstants.{MAX_BOARD_ROOM}
-use Rattle.hop_rule.specs.declared.step.BoardStep.{BoardStep}
-use Rattle.hop_rule.specs.declared.step.BoardStep.TheVariants.{Lane, LaneIn}
 use Rattle.hop_rule.specs.declared.step.Change.{Change}
 use Rattle.hop_rule.specs.declared.step.GateStep.{GateStep}
-use Rattle.hop_rule.specs.declared.step.LaneStep.{LaneStep}
 use Rattle.hop_rule.specs.declared.step.LaneStep.TheVariants.{Freed, OutFreed, Given}
 use Rattle.hop_rule.specs.declared.step.Slot.TheVariants as slot
-use Rattle.hop_rule.specs.Boards.{lanes_of, gate_steps, lane_steps, IsLawful, IsInside}
-use Rattle.hop_rule.specs.Boards.{lane_at, full, taken, own_state, slot_state, MayCome}
+use Rattle.hop_rule.specs.Boards.{IsInside, full, taken, slot_state, MayCome}
 use Rattle.hop_rule.specs.Gates as gates
 use Rattle.hop_rule.specs.Lanes as lanes
-use Rattle.hop_rule.specs.OutLanes.{OutList, out_list}
-use Rattle.hop_rule.specs.Sizes.{FitSizes, puller}
-use Rattle.hop_rule.proofs.Boards.{parts, few}
+use Rattle.hop_rule.proofs.Boards.{few}
 use Rattle.hop_rule.proofs.Lanes.{holds, out_holds}
-use Rattle.board_api.specs.Calls.HeldLanes.{FitsLane}
-use Rattle.board_api.specs.declared.held_lane.LaneId.{LaneId}
 use Rattle.board_api.specs.declared.held_lane.LaneId.TheVariants as id
-use Rattle.hop_board.specs.declared.places.Word.{Word}
 use Rattle.hop_board.specs.declared.places.Word.TheVariants as kind
-use Rattle.hop_board.specs.Steps.{MayGive, released_word}
-use Rattle.hop_board.specs.Tables.{value, slot_of}
-use Rattle.hop_board.specs.Tables.{home_by, home_after, content}
+use Rattle.hop_board.specs.Tables.{home_by}
+use Rattle.hop_board.proofs.Names.{◌≡◌, ◌≢◌, ℕ, ◌+◌, ◌*◌, ◌<◌, ◌≤◌, ◌==◌, List, [], ◌∷◌, ◌++◌, Bool}
+use Rattle.hop_board.proofs.Names.{true, false, Some, length, if◌then◌else◌, sym, refl, ap, ◌∙◌}
+use Rattle.hop_board.proofs.Names.{subst, arith, length-append, LaneLists, StepBy, step_by}
+use Rattle.hop_board.proofs.Names.{steps_of, SeatView, if_same, if_other, BoardSizes, BoardStep}
+use Rattle.hop_board.proofs.Names.{Lane, LaneIn, LaneStep, lanes_of, gate_steps, lane_steps}
+use Rattle.hop_board.proofs.Names.{IsLawful, lane_at, own_state, OutList, out_list, FitSizes}
+use Rattle.hop_board.proofs.Names.{puller, parts, FitsLane, LaneId, Word, MayGive, released_word}
+use Rattle.hop_board.proofs.Names.{value, slot_of, home_after, content}
 use Rattle.hop_board.proofs.Acts.{seen, lanes_seen}
 
 abbrev Order : Type 0

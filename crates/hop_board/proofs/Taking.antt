@@ -1,22 +1,19 @@
 -- Lanes that are taken out of their slots one by one.
-use Rattle.std.proofs.Common.{◌≡◌, ◌≢◌, ℕ, zero, suc, ◌+◌, ◌<◌, Bool, false, List, [], ◌∷◌, inl}
-use Rattle.std.proofs.Common.{inr, ◌++◌, Some, None, get_or, set, length, slice_index_or, sym, ap}
-use Rattle.std.proofs.Common.{◌∙◌, subst, arith, length-append, get_or-set_same, get_or-set_other}
+use Rattle.std.proofs.Common.{inl, inr}
 use Rattle.std.proofs.lemmas.Bool.{cases_lt}
 use Rattle.std.proofs.lemmas.List.{get_or_append_left}
 use Rattle.std.proofs.Math.Seq.{get_or-append_seam}
-use mathlib.Core.Logic.{dite}
-use mathlib.Core.Option.{some, some-injective, some-ne-none}
-use native.Mathlib.Decide.{ℕ_discrete}
+use mathlib.Core.Option.{some-injective, some-ne-none}
 use lib.ListN.{get_elem?}
-use Rattle.steer_base.specs.Journals.{Journal, journal}
-use Rattle.hop_rule.specs.declared.sizes.BoardSizes.{BoardSizes}
+use Rattle.steer_base.specs.Journals.{Journal}
 use Rattle.hop_rule.specs.declared.step.Slot.TheVariants as slot
 use Rattle.board_api.specs.declared.held_lane.LaneId.TheVariants as id
-use Rattle.hop_board.specs.Left.{AllLie, AreFullFrom, AreSpare, AreTakenFrom, AreTakenTo}
-use Rattle.hop_board.specs.Left.{IsMiddleOf}
-use Rattle.hop_board.specs.Left.{IsOutLane, LiesIn}
-use Rattle.hop_board.specs.Tables.{InSlot, home_of}
+use Rattle.hop_board.specs.Left.{AllLie, IsMiddleOf, IsOutLane, LiesIn}
+use Rattle.hop_board.proofs.Names.{◌≡◌, ◌≢◌, ℕ, zero, suc, ◌+◌, ◌<◌, Bool, false, List, [], ◌∷◌}
+use Rattle.hop_board.proofs.Names.{◌++◌, Some, None, get_or, set, length, slice_index_or, sym, ap}
+use Rattle.hop_board.proofs.Names.{◌∙◌, subst, arith, length-append, get_or-set_same}
+use Rattle.hop_board.proofs.Names.{get_or-set_other, dite, some, ℕ_discrete, journal, BoardSizes}
+use Rattle.hop_board.proofs.Names.{AreFullFrom, AreSpare, AreTakenFrom, AreTakenTo, InSlot, home_of}
 
 pub at_or : {A : Type 0} (xs : List A) (i : ℕ) (a d : A) → get_elem? xs i ≡ some a
     → get_or xs i d ≡ a

@@ -1,15 +1,12 @@
 -- The packets that a board has are below its room.
-use Rattle.std.proofs.Common.{ℕ, suc, List}
-use Rattle.linearization.specs.Orders.{StepBy}
-use Rattle.hop_rule.specs.declared.sizes.BoardSizes.{BoardSizes}
-use Rattle.hop_rule.specs.declared.step.BoardStep.{BoardStep}
-use Rattle.hop_rule.specs.Boards.{IsLawful, lane_at, out, lanes_of}
+use Rattle.hop_rule.specs.Boards.{out}
 use Rattle.hop_rule.specs.Deliveries.{delivery}
-use Rattle.hop_rule.proofs.Boards.{parts}
 use Rattle.hop_rule.proofs.Heads.{delivered_as_accepted}
 use Rattle.hop_rule.proofs.Members.{out_given}
 use Rattle.hop_rule.proofs.Puts.{each_accepted_was_put, each_put_is_right}
 use Rattle.hop_board.specs.Releases.{AreBelow}
+use Rattle.hop_board.proofs.Names.{ℕ, suc, List, StepBy, BoardSizes, BoardStep, IsLawful, lane_at}
+use Rattle.hop_board.proofs.Names.{lanes_of, parts}
 
 module _ (about : BoardSizes) (order : List (StepBy BoardStep))
     (lawful : IsLawful about order) where

@@ -1,20 +1,13 @@
 -- What an atomic operation at a word of a board asks, from what its seat may do there.
-use Rattle.std.proofs.Common.{◌≡◌, ℕ, ◌<◌, List, ap, sym, ◌∙◌, subst, arith}
 use mathlib.Core.Option.{none}
-use Rattle.atomic_table.specs.Seated.{TableId}
 use Rattle.atomic_table.specs.Table.{Allows, step}
-use Rattle.linearization.specs.Rules.{Ordered, Made}
-use Rattle.linearization.specs.Seats.{SeatView, seat_view}
-use Rattle.linearization.specs.Views.{number_in, steps_in}
-use Rattle.hop_rule.specs.Sizes.{FitSizes}
-use Rattle.hop_rule.specs.declared.sizes.BoardSizes.{BoardSizes}
-use Rattle.hop_rule.specs.declared.step.BoardStep.{BoardStep}
-use Rattle.board_api.specs.Views.{BoardView}
+use Rattle.linearization.specs.Rules.{Made}
 use Rattle.hop_board.specs.Closed.{IsBoard}
-use Rattle.hop_board.specs.Steps.{MayAct}
-use Rattle.hop_board.specs.Tables.{HasBoard, IsWord, place, width}
-use Rattle.hop_board.specs.declared.places.Word.{Word}
 use Rattle.hop_board.specs.declared.spare.Spare.{Spare}
+use Rattle.hop_board.proofs.Names.{◌≡◌, ℕ, ◌<◌, List, ap, sym, ◌∙◌, subst, arith, TableId, Ordered}
+use Rattle.hop_board.proofs.Names.{SeatView, seat_view, number_in, steps_in, FitSizes, BoardSizes}
+use Rattle.hop_board.proofs.Names.{BoardStep, BoardView, MayAct, HasBoard, IsWord, place, width}
+use Rattle.hop_board.proofs.Names.{Word}
 use Rattle.hop_board.proofs.Apart.{place_inside}
 use Rattle.hop_board.proofs.Keeps.{Alone, Seated, acts_in, stores_in}
 

@@ -1,5 +1,5 @@
-use Rattle.std.proofs.Common.{◌≡◌, ◌++◌, All, map}
 use Rattle.board_api.specs.Seats.{ordered_seat}
+use Rattle.hop_board.proofs.Names.{◌≡◌, ◌++◌, All, map}
 use Rattle.hop_board.proofs.closing.gathered.Given as goal
 
 abbrev pub invariant-loop-next : goal.invariant-loop-next

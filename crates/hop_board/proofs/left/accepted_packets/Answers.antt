@@ -1,7 +1,7 @@
-use Rattle.std.proofs.Common.{[], ◌∷◌, ◌++◌, take, sym, ap, ◌∙◌}
 use Rattle.std.proofs.lemmas.List.{take_more}
 use Rattle.std.proofs.lemmas.Option.{get_or_from_slice_get, slice_get_within}
-use Rattle.steer_base.specs.Journals.{grown, journal}
+use Rattle.steer_base.specs.Journals.{grown}
+use Rattle.hop_board.proofs.Names.{[], ◌∷◌, ◌++◌, take, sym, ap, ◌∙◌, journal}
 use Rattle.hop_board.proofs.left.accepted_packets.Goals as goal
 
 pub loop-n-preserved : goal.loop-n-preserved

@@ -1,5 +1,4 @@
-use Rattle.std.proofs.Common.{◌≡◌, take}
-use Rattle.steer_base.specs.Journals.{journal}
+use Rattle.hop_board.proofs.Names.{◌≡◌, take, journal}
 use Rattle.hop_board.proofs.left.dropped_packets.Given as goal
 
 abbrev pub invariant-loop-fallen : goal.invariant-loop-fallen

@@ -1,11 +1,9 @@
-use Rattle.std.proofs.Common.{◌≡◌, ◌+◌, ◌-◌, ◌*◌, ℕ, [], ◌∷◌, ◌++◌, None, length, slice_index_or}
-use Rattle.std.proofs.Common.{sym, ap, ◌∙◌, subst, arith}
 use Rattle.std.specs.Option.{option_to_list}
-use Rattle.std.specs.Slots.{slots_filled, slots_items, slots_len}
-use Rattle.std.specs.Vec.{vec_len}
-use Rattle.std.proofs.lemmas.List.FromFn.{length-map-range_with_len, map-range_with_len_more}
-use Rattle.hop_board.specs.Left.{AreSpare, AreTakenTo, IsMiddleOf, middle_left}
-use Rattle.hop_board.specs.declared.places.TheConstants.{SLOTS_PER_LANE}
+use Rattle.hop_board.specs.Left.{IsMiddleOf, middle_left}
+use Rattle.hop_board.proofs.Names.{◌≡◌, ◌+◌, ◌-◌, ◌*◌, ℕ, [], ◌∷◌, ◌++◌, None, length}
+use Rattle.hop_board.proofs.Names.{slice_index_or, sym, ap, ◌∙◌, subst, arith, slots_filled}
+use Rattle.hop_board.proofs.Names.{slots_items, slots_len, vec_len, length-map-range_with_len}
+use Rattle.hop_board.proofs.Names.{map-range_with_len_more, AreSpare, AreTakenTo, SLOTS_PER_LANE}
 use Rattle.hop_board.proofs.Taking.{middle_found, popped_is, popped_left, taken_to}
 use Rattle.hop_board.proofs.left.middle_lists.Goals as goal
 

@@ -1,7 +1,6 @@
-use Rattle.std.proofs.Common.{◌≡◌, ◌-◌, ◌*◌, ◌≤◌, vec_capacity}
-use Rattle.std.specs.Slots.{slots_filled, slots_items, slots_len}
-use Rattle.hop_board.specs.Left.{AreSpare, AreTakenTo, middles_left}
-use Rattle.hop_board.specs.declared.places.TheConstants.{SLOTS_PER_LANE}
+use Rattle.hop_board.specs.Left.{middles_left}
+use Rattle.hop_board.proofs.Names.{◌≡◌, ◌-◌, ◌*◌, ◌≤◌, vec_capacity, slots_filled, slots_items}
+use Rattle.hop_board.proofs.Names.{slots_len, AreSpare, AreTakenTo, SLOTS_PER_LANE}
 use Rattle.hop_board.proofs.left.middle_lists.Given as goal
 
 abbrev pub invariant-loop-lane : goal.invariant-loop-lane

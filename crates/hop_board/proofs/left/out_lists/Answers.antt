@@ -1,10 +1,8 @@
-use Rattle.std.proofs.Common.{◌≡◌, ◌+◌, ◌*◌, ℕ, [], ◌∷◌, ◌++◌, None, length, slice_index_or, sym}
-use Rattle.std.proofs.Common.{ap, ◌∙◌, subst, arith}
-use Rattle.std.specs.Slots.{slots_filled, slots_items, slots_len}
-use Rattle.std.specs.Vec.{vec_len}
-use Rattle.std.proofs.lemmas.List.FromFn.{length-map-range_with_len, map-range_with_len_more}
-use Rattle.hop_board.specs.Left.{AreFullFrom, AreTakenFrom, out_left}
-use Rattle.hop_board.specs.declared.places.TheConstants.{SLOTS_PER_LANE}
+use Rattle.hop_board.specs.Left.{out_left}
+use Rattle.hop_board.proofs.Names.{◌≡◌, ◌+◌, ◌*◌, ℕ, [], ◌∷◌, ◌++◌, None, length, slice_index_or}
+use Rattle.hop_board.proofs.Names.{sym, ap, ◌∙◌, subst, arith, slots_filled, slots_items, slots_len}
+use Rattle.hop_board.proofs.Names.{vec_len, length-map-range_with_len, map-range_with_len_more}
+use Rattle.hop_board.proofs.Names.{AreFullFrom, AreTakenFrom, SLOTS_PER_LANE}
 use Rattle.hop_board.proofs.Taking.{more_taken, out_found}
 use Rattle.hop_board.proofs.left.out_lists.Goals as goal
 

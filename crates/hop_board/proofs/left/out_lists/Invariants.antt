@@ -1,7 +1,6 @@
-use Rattle.std.proofs.Common.{◌≡◌, ◌+◌, ◌*◌, ◌≤◌, vec_capacity}
-use Rattle.std.specs.Slots.{slots_filled, slots_items, slots_len}
-use Rattle.hop_board.specs.Left.{AreFullFrom, AreTakenFrom, outs_left}
-use Rattle.hop_board.specs.declared.places.TheConstants.{SLOTS_PER_LANE}
+use Rattle.hop_board.specs.Left.{outs_left}
+use Rattle.hop_board.proofs.Names.{◌≡◌, ◌+◌, ◌*◌, ◌≤◌, vec_capacity, slots_filled, slots_items}
+use Rattle.hop_board.proofs.Names.{slots_len, AreFullFrom, AreTakenFrom, SLOTS_PER_LANE}
 use Rattle.hop_board.proofs.left.out_lists.Given as goal
 
 abbrev pub invariant-loop-out : goal.invariant-loop-out

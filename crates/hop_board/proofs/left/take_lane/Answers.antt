@@ -1,6 +1,4 @@
-use Rattle.std.proofs.Common.{◌*◌, refl}
-use Rattle.std.specs.Slots.{slots_items}
-use Rattle.hop_board.specs.declared.places.TheConstants.{SLOTS_PER_LANE}
+use Rattle.hop_board.proofs.Names.{◌*◌, refl, slots_items, SLOTS_PER_LANE}
 use Rattle.hop_board.proofs.Taking.{found_is}
 use Rattle.hop_board.proofs.left.take_lane.Goals as goal
 

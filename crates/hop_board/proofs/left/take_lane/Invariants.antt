@@ -1,6 +1,5 @@
-use Rattle.std.proofs.Common.{◌≡◌, ◌+◌}
-use Rattle.std.specs.Slots.{slots_filled, slots_items, slots_len}
-use Rattle.hop_board.specs.Left.{AreFullFrom, AreTakenFrom}
+use Rattle.hop_board.proofs.Names.{◌≡◌, ◌+◌, slots_filled, slots_items, slots_len, AreFullFrom}
+use Rattle.hop_board.proofs.Names.{AreTakenFrom}
 use Rattle.hop_board.proofs.left.take_lane.Given as goal
 
 abbrev pub invariant-loop-n : goal.invariant-loop-n

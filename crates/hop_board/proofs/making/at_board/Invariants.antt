@@ -1,6 +1,5 @@
-use Rattle.std.proofs.Common.{◌≡◌, ◌+◌, ◌≤◌, ◌++◌, false, All, map, reverse, vec_capacity}
-use Rattle.std.specs.Vec.{vec_len}
-use Rattle.hop_board.specs.Named.{HasNoSteps, board_seat}
+use Rattle.hop_board.proofs.Names.{◌≡◌, ◌+◌, ◌≤◌, ◌++◌, false, All, map, reverse, vec_capacity}
+use Rattle.hop_board.proofs.Names.{vec_len, HasNoSteps, board_seat}
 use Rattle.hop_board.proofs.making.at_board.Given as goal
 
 abbrev pub invariant-loop-seat : goal.invariant-loop-seat

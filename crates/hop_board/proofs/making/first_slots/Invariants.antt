@@ -1,7 +1,6 @@
-use Rattle.std.proofs.Common.{◌≡◌, [], ◌++◌, Some, replicate}
-use Rattle.hop_rule.specs.OutLanes.{out_list}
 use Rattle.hop_rule.specs.declared.step.Slot.TheVariants.{Out}
 use Rattle.hop_board.specs.Made.{new_middles}
+use Rattle.hop_board.proofs.Names.{◌≡◌, [], ◌++◌, Some, replicate, out_list}
 use Rattle.hop_board.proofs.making.first_slots.Given as goal
 
 abbrev pub invariant-loop : goal.invariant-loop

@@ -1,8 +1,7 @@
-use Rattle.std.proofs.Common.{[], ◌∷◌, ◌++◌, Some, sym, ap, ◌∙◌, arith}
-use Rattle.std.proofs.lemmas.List.FromFn.{map-range_with_len_more}
 use Rattle.backlog.specs.Puts.{new_lane}
 use Rattle.hop_rule.specs.declared.step.Slot.TheVariants.{Middle}
-use Rattle.hop_board.specs.Made.{new_middle}
+use Rattle.hop_board.proofs.Names.{[], ◌∷◌, ◌++◌, Some, sym, ap, ◌∙◌, arith}
+use Rattle.hop_board.proofs.Names.{map-range_with_len_more, new_middle}
 use Rattle.hop_board.proofs.making.middle_slots.Goals as goal
 
 pub loop-lane-preserved : goal.loop-lane-preserved

@@ -1,6 +1,5 @@
-use Rattle.std.proofs.Common.{◌≡◌, map}
 use Rattle.std.specs.List.{range_with_len}
-use Rattle.hop_board.specs.Made.{new_middle}
+use Rattle.hop_board.proofs.Names.{◌≡◌, map, new_middle}
 use Rattle.hop_board.proofs.making.middle_slots.Given as goal
 
 abbrev pub invariant-loop-lane : goal.invariant-loop-lane

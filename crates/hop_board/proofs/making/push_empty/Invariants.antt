@@ -1,4 +1,4 @@
-use Rattle.std.proofs.Common.{◌≡◌, ◌++◌, None, replicate}
+use Rattle.hop_board.proofs.Names.{◌≡◌, ◌++◌, None, replicate}
 use Rattle.hop_board.proofs.making.push_empty.Given as goal
 
 abbrev pub invariant-loop : goal.invariant-loop

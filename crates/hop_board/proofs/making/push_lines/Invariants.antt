@@ -1,5 +1,5 @@
-use Rattle.std.proofs.Common.{◌≡◌, ◌++◌}
 use Rattle.hop_board.specs.Made.{lines_of}
+use Rattle.hop_board.proofs.Names.{◌≡◌, ◌++◌}
 use Rattle.hop_board.proofs.making.push_lines.Given as goal
 
 abbrev pub invariant-loop : goal.invariant-loop

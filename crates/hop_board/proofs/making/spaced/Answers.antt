@@ -1,6 +1,5 @@
-use Rattle.std.proofs.Common.{[], ◌∷◌, ◌++◌, reverse, sym, ap, ◌∙◌}
 use Rattle.std.specs.Option.{option_to_list}
-use Rattle.hop_board.specs.Made.{spaced}
+use Rattle.hop_board.proofs.Names.{[], ◌∷◌, ◌++◌, reverse, sym, ap, ◌∙◌, spaced}
 use Rattle.hop_board.proofs.Opening.{spaced_back}
 use Rattle.hop_board.proofs.making.spaced.Goals as goal
 

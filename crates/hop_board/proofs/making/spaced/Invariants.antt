@@ -1,6 +1,4 @@
-use Rattle.std.proofs.Common.{◌≡◌, ◌++◌, reverse}
-use Rattle.std.specs.Vec.{vec_len}
-use Rattle.hop_board.specs.Made.{spaced}
+use Rattle.hop_board.proofs.Names.{◌≡◌, ◌++◌, reverse, vec_len, spaced}
 use Rattle.hop_board.proofs.making.spaced.Given as goal
 
 abbrev pub invariant-loop-slot : goal.invariant-loop-slot

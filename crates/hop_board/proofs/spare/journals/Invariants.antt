@@ -1,5 +1,4 @@
-use Rattle.std.proofs.Common.{◌≡◌, ◌≤◌, [], replicate, vec_capacity}
-use Rattle.steer_base.specs.Journals.{journal}
+use Rattle.hop_board.proofs.Names.{◌≡◌, ◌≤◌, [], replicate, vec_capacity, journal}
 use Rattle.hop_board.proofs.spare.journals.Given as goal
 
 abbrev pub invariant-loop : goal.invariant-loop

@@ -1,4 +1,4 @@
-use Rattle.std.proofs.Common.{◌+◌, ◌%◌, ◌^◌}
+use Rattle.hop_board.proofs.Names.{◌+◌, ◌%◌, ◌^◌}
 use Rattle.hop_board.proofs.WordSteps.{acts_at}
 use Rattle.hop_board.proofs.board.Board.add_as.Goals as goal
 

@@ -1,13 +1,7 @@
-use Rattle.std.proofs.Common.{All, List, sym, ap, subst}
-use Rattle.std.specs.Slots.{slots_items}
 use Rattle.linearization.specs.Closings.{Ends}
-use Rattle.linearization.specs.Seats.{SeatView}
-use Rattle.hop_rule.specs.declared.sizes.BoardSizes.{BoardSizes}
-use Rattle.hop_rule.specs.declared.step.BoardStep.{BoardStep}
 use Rattle.board_api.specs.Closings.Closings.{HasEnded, IsAtRest}
-use Rattle.board_api.specs.Seats.{BoardSeatView}
-use Rattle.board_api.specs.Views.{BoardView}
-use Rattle.hop_board.specs.Tables.{HasBoard}
+use Rattle.hop_board.proofs.Names.{All, List, sym, ap, subst, slots_items, SeatView, BoardSizes}
+use Rattle.hop_board.proofs.Names.{BoardStep, BoardSeatView, BoardView, HasBoard}
 use Rattle.hop_board.proofs.Ended.{all_lie, ended}
 use Rattle.hop_board.proofs.board.Board.close_board.Goals as goal
 

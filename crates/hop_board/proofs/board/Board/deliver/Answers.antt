@@ -1,21 +1,15 @@
-use Rattle.std.proofs.Common.{◌≡◌, ◌+◌, ◌<◌, [], ◌∷◌, true, ap, sym, ◌∙◌, subst, arith, List}
-use Rattle.std.proofs.Common.{length, slice_index, length-append}
-use Rattle.hop_rule.specs.declared.step.BoardStep.{BoardStep}
-use Rattle.hop_rule.specs.declared.step.BoardStep.TheVariants.{Lane, LaneIn}
 use Rattle.hop_rule.specs.declared.step.LaneStep.TheVariants as step
 use Rattle.hop_rule.specs.declared.step.Slot.TheVariants as slot
-use Rattle.hop_rule.specs.Boards.{lane_steps, out_slot}
-use Rattle.hop_rule.specs.Lanes.{has_pulled, phase}
-use Rattle.hop_rule.specs.OutLanes.{OutList}
-use Rattle.board_api.specs.Calls.HeldLanes.{HoldsOut, IsOut, room_in}
-use Rattle.board_api.specs.Seats.{BoardSeatView}
+use Rattle.hop_rule.specs.Boards.{out_slot}
+use Rattle.hop_rule.specs.Lanes.{has_pulled}
+use Rattle.board_api.specs.Calls.HeldLanes.{HoldsOut, room_in}
 use Rattle.board_api.specs.Calls.Results.{DeliverTells}
-use Rattle.board_api.specs.declared.held_lane.HeldLane.{HeldLane}
 use Rattle.board_api.specs.declared.held_lane.LaneId.TheVariants as id
-use Rattle.hop_board.specs.Named.{board_seat}
-use Rattle.hop_board.specs.Releases.{step_in}
-use Rattle.hop_board.specs.Steps.{MayGive}
 use Rattle.hop_board.specs.declared.release.Release.TheVariants.{Given}
+use Rattle.hop_board.proofs.Names.{◌≡◌, ◌+◌, ◌<◌, [], ◌∷◌, true, ap, sym, ◌∙◌, subst, arith, List}
+use Rattle.hop_board.proofs.Names.{length, slice_index, length-append, BoardStep, Lane, LaneIn}
+use Rattle.hop_board.proofs.Names.{lane_steps, phase, OutList, IsOut, BoardSeatView, HeldLane}
+use Rattle.hop_board.proofs.Names.{board_seat, step_in, MayGive}
 use Rattle.hop_board.proofs.Held.{may_deliver}
 use Rattle.hop_board.proofs.board.Board.deliver.Goals as goal
 

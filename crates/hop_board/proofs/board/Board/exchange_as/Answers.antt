@@ -1,5 +1,5 @@
-use Rattle.std.proofs.Common.{◌==◌}
 use prog.Atomic.{either}
+use Rattle.hop_board.proofs.Names.{◌==◌}
 use Rattle.hop_board.proofs.WordSteps.{acts_at}
 use Rattle.hop_board.proofs.board.Board.exchange_as.Goals as goal
 

@@ -1,4 +1,4 @@
-use Rattle.hop_board.specs.Releases.{step_in, is_told}
+use Rattle.hop_board.proofs.Names.{step_in, is_told}
 use Rattle.hop_board.proofs.board.Board.give.Given as goal
 
 abbrev pub ghosts-give_as : goal.ghosts-give_as

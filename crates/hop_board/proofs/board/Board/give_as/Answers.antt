@@ -1,16 +1,12 @@
-use Rattle.std.proofs.Common.{◌≡◌, ◌+◌, ◌-◌, ◌%◌, ◌^◌, [], ◌∷◌, true, false, Some, None, sym, refl}
-use Rattle.std.proofs.Common.{ap, ◌∙◌, subst, arith}
 use Rattle.atomic_table.specs.Table.{rest}
-use Rattle.linearization.specs.Views.{one, number_in, steps_in}
-use Rattle.linearization.specs.Seats.{SeatView, seat_view}
-use Rattle.hop_rule.specs.declared.step.BoardStep.{BoardStep}
-use Rattle.hop_rule.specs.declared.step.BoardStep.TheVariants.{LaneIn}
-use Rattle.hop_rule.specs.Sizes.{FitSizes}
-use Rattle.board_api.specs.Views.{BoardView}
 use Rattle.hop_board.specs.Releases.{released_lane, rises_in}
-use Rattle.hop_board.specs.Steps.{MayGive, released_word}
-use Rattle.hop_board.specs.Tables.{all_slots, home_at, home_of, place, slot_at, slot_of, width}
+use Rattle.hop_board.specs.Tables.{slot_at}
 use Rattle.hop_board.specs.declared.places.Word.TheVariants as kind
+use Rattle.hop_board.proofs.Names.{◌≡◌, ◌+◌, ◌-◌, ◌%◌, ◌^◌, [], ◌∷◌, true, false, Some, None, sym}
+use Rattle.hop_board.proofs.Names.{refl, ap, ◌∙◌, subst, arith, one, number_in, steps_in, SeatView}
+use Rattle.hop_board.proofs.Names.{seat_view, BoardStep, LaneIn, FitSizes, BoardView, MayGive}
+use Rattle.hop_board.proofs.Names.{released_word, all_slots, home_at, home_of, place, slot_of}
+use Rattle.hop_board.proofs.Names.{width}
 use Rattle.hop_board.proofs.Apart.{home_is_at, place_inside, slot_is_at}
 use Rattle.hop_board.proofs.Keeps.{fills_in, gives_in}
 use Rattle.hop_board.proofs.board.Board.give_as.Goals as goal

@@ -1,15 +1,8 @@
-use Rattle.std.proofs.Common.{ap, sym, subst}
-use Rattle.hop_rule.specs.declared.step.BoardStep.{BoardStep}
-use Rattle.hop_rule.specs.declared.step.Slot.{Slot}
 use Rattle.board_api.specs.Calls.HeldLanes.{Holds}
-use Rattle.board_api.specs.Seats.{BoardSeatView}
-use Rattle.board_api.specs.declared.held_lane.LaneId.{LaneId}
-use Rattle.hop_board.specs.Releases.{is_told, step_in}
-use Rattle.hop_board.specs.Steps.{MayGive}
-use Rattle.hop_board.specs.declared.release.Release.TheVariants.{Unchanged}
+use Rattle.hop_board.proofs.Names.{ap, sym, subst, BoardStep, Slot, BoardSeatView, LaneId, is_told}
+use Rattle.hop_board.proofs.Names.{step_in, MayGive, Unchanged, false, List}
 use Rattle.hop_board.proofs.Held.{may_return}
 use Rattle.hop_board.proofs.board.Board.give_back.Goals as goal
-use Rattle.std.proofs.Common.{false, List}
 
 pub give-requires-clause-give : goal.give-requires-clause-give
 give-requires-clause-give c =

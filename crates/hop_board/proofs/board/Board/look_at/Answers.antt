@@ -1,7 +1,5 @@
-use Rattle.std.proofs.Common.{◌∷◌, refl, ap, ◌∙◌}
-use Rattle.linearization.specs.Seats.{SeatView}
-use Rattle.hop_rule.specs.declared.step.BoardStep.{BoardStep}
 use Rattle.hop_rule.specs.declared.step.BoardStep.TheVariants.{Counted}
+use Rattle.hop_board.proofs.Names.{◌∷◌, refl, ap, ◌∙◌, SeatView, BoardStep}
 use Rattle.hop_board.proofs.board.Board.look_at.Goals as goal
 
 pub returns : goal.returns

@@ -1,5 +1,4 @@
-use Rattle.std.proofs.Common.{◌+◌, ◌<◌, sym, ap, ◌∙◌, subst}
-use Rattle.board_api.specs.Views.{BoardView}
+use Rattle.hop_board.proofs.Names.{◌+◌, ◌<◌, sym, ap, ◌∙◌, subst, BoardView}
 use Rattle.hop_board.proofs.Looks.{LooksBelow}
 use Rattle.hop_board.proofs.Looks.{finds_first, looks_more, looks_none, looks_past}
 use Rattle.hop_board.proofs.board.Board.look_over.Goals as goal

@@ -1,11 +1,5 @@
-use Rattle.std.proofs.Common.{◌≡◌, All, List, length, sym, ap, ◌∙◌, subst, arith}
-use Rattle.linearization.specs.Seats.{SeatView}
-use Rattle.hop_rule.specs.declared.sizes.BoardSizes.{BoardSizes}
-use Rattle.hop_rule.specs.declared.step.BoardStep.{BoardStep}
-use Rattle.board_api.specs.Seats.{BoardSeatView}
-use Rattle.hop_board.specs.Made.{spaced}
-use Rattle.hop_board.specs.Named.{HasNoSteps}
-use Rattle.hop_board.specs.Tables.{InSlot}
+use Rattle.hop_board.proofs.Names.{◌≡◌, All, List, length, sym, ap, ◌∙◌, subst, arith, SeatView}
+use Rattle.hop_board.proofs.Names.{BoardSizes, BoardStep, BoardSeatView, spaced, HasNoSteps, InSlot}
 use Rattle.hop_board.proofs.Opening.{begins, new_fresh, slots_long, tables_at_board, words_long}
 use Rattle.hop_board.proofs.board.Board.make.Goals as goal
 

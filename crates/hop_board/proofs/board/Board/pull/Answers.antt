@@ -1,16 +1,11 @@
-use Rattle.std.proofs.Common.{◌<◌, false, ap, sym, ◌∙◌, subst, List}
-use Rattle.steer_base.specs.Lanes.{LaneLists}
-use Rattle.hop_rule.specs.declared.step.BoardStep.{BoardStep}
 use Rattle.hop_rule.specs.declared.step.Slot.TheVariants as slot
-use Rattle.hop_rule.specs.Boards.{lane_steps}
-use Rattle.hop_rule.specs.Lanes.{phase}
-use Rattle.board_api.specs.Calls.HeldLanes.{HasNoneOf, HoldsMiddle, IsMiddle, PullsFrom}
-use Rattle.board_api.specs.Seats.{BoardSeatView}
+use Rattle.board_api.specs.Calls.HeldLanes.{HasNoneOf, HoldsMiddle, PullsFrom}
 use Rattle.board_api.specs.declared.held_lane.HeldLane.TheVariants as held
 use Rattle.board_api.specs.declared.held_lane.LaneId.TheVariants as id
-use Rattle.hop_board.specs.Releases.{step_in}
-use Rattle.hop_board.specs.Steps.{MayGive}
-use Rattle.hop_board.specs.declared.release.Release.TheVariants.{Pulled, Unchanged}
+use Rattle.hop_board.specs.declared.release.Release.TheVariants.{Pulled}
+use Rattle.hop_board.proofs.Names.{◌<◌, false, ap, sym, ◌∙◌, subst, List, LaneLists, BoardStep}
+use Rattle.hop_board.proofs.Names.{lane_steps, phase, IsMiddle, BoardSeatView, step_in, MayGive}
+use Rattle.hop_board.proofs.Names.{Unchanged}
 use Rattle.hop_board.proofs.Held.{may_pull, may_return, none_taken, taken_is}
 use Rattle.hop_board.proofs.board.Board.pull.Goals as goal
 

@@ -1,16 +1,11 @@
-use Rattle.std.proofs.Common.{◌<◌, ap, sym, ◌∙◌, subst, arith, List}
-use Rattle.steer_base.specs.Lanes.{LaneLists}
-use Rattle.hop_rule.specs.declared.step.BoardStep.{BoardStep}
 use Rattle.hop_rule.specs.declared.step.Slot.TheVariants as slot
-use Rattle.hop_rule.specs.Boards.{gate_steps}
 use Rattle.hop_rule.specs.Gates.{visit}
-use Rattle.board_api.specs.Calls.HeldLanes.{HoldsMiddle, IsMiddle, room_in}
-use Rattle.board_api.specs.Seats.{BoardSeatView}
-use Rattle.board_api.specs.declared.held_lane.HeldLane.{HeldLane}
+use Rattle.board_api.specs.Calls.HeldLanes.{HoldsMiddle, room_in}
 use Rattle.board_api.specs.declared.held_lane.LaneId.TheVariants as id
-use Rattle.hop_board.specs.Releases.{rises_by, step_in}
-use Rattle.hop_board.specs.Steps.{MayGive}
+use Rattle.hop_board.specs.Releases.{rises_by}
 use Rattle.hop_board.specs.declared.release.Release.TheVariants.{Offered}
+use Rattle.hop_board.proofs.Names.{◌<◌, ap, sym, ◌∙◌, subst, arith, List, LaneLists, BoardStep}
+use Rattle.hop_board.proofs.Names.{gate_steps, IsMiddle, BoardSeatView, HeldLane, step_in, MayGive}
 use Rattle.hop_board.proofs.Held.{may_put}
 use Rattle.hop_board.proofs.board.Board.put.Goals as goal
 

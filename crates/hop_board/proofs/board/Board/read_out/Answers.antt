@@ -1,8 +1,6 @@
-use Rattle.std.proofs.Common.{ap, sym, subst, List}
-use Rattle.hop_rule.specs.declared.step.BoardStep.{BoardStep}
-use Rattle.board_api.specs.Calls.HeldLanes.{HoldsOut, IsOut}
-use Rattle.board_api.specs.Seats.{BoardSeatView}
+use Rattle.board_api.specs.Calls.HeldLanes.{HoldsOut}
 use Rattle.board_api.specs.declared.held_lane.HeldLane.TheVariants.{Out}
+use Rattle.hop_board.proofs.Names.{ap, sym, subst, List, BoardStep, IsOut, BoardSeatView}
 use Rattle.hop_board.proofs.Held.{may_return}
 use Rattle.hop_board.proofs.board.Board.read_out.Goals as goal
 

@@ -1,5 +1,5 @@
-use Rattle.hop_rule.specs.declared.step.BoardStep.TheVariants.{Gate}
 use Rattle.hop_rule.specs.declared.step.GateStep.TheVariants.{Left}
+use Rattle.hop_board.proofs.Names.{Gate}
 use Rattle.hop_board.proofs.board.Board.step_out.Given as goal
 
 abbrev pub ghosts-sub_as : goal.ghosts-sub_as

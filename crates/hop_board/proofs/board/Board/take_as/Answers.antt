@@ -1,14 +1,9 @@
-use Rattle.std.proofs.Common.{◌≡◌, [], ◌∷◌, false, Some, None, sym, refl, ap, ◌∙◌, subst, arith}
 use Rattle.atomic_table.specs.Table.{rest}
-use Rattle.linearization.specs.Views.{one, number_in, steps_in}
-use Rattle.linearization.specs.Seats.{seat_view}
-use Rattle.hop_rule.specs.Boards.{own_state}
-use Rattle.hop_rule.specs.Sizes.{FitSizes}
 use Rattle.board_api.specs.StepWords.{is_odd}
-use Rattle.board_api.specs.Views.{BoardView}
-use Rattle.hop_board.specs.Plays.{HeldAt}
-use Rattle.hop_board.specs.Tables.{all_slots, home_at, home_of, slot_of, width}
 use Rattle.hop_board.specs.declared.places.Word.TheVariants as kind
+use Rattle.hop_board.proofs.Names.{◌≡◌, [], ◌∷◌, false, Some, None, sym, refl, ap, ◌∙◌, subst}
+use Rattle.hop_board.proofs.Names.{arith, one, number_in, steps_in, seat_view, own_state, FitSizes}
+use Rattle.hop_board.proofs.Names.{BoardView, HeldAt, all_slots, home_at, home_of, slot_of, width}
 use Rattle.hop_board.proofs.Apart.{home_is_at, place_inside}
 use Rattle.hop_board.proofs.Keeps.{holds_in, empties_in, even_is, held_state}
 use Rattle.hop_board.proofs.board.Board.take_as.Goals as goal

@@ -1,8 +1,6 @@
-use Rattle.std.proofs.Common.{◌<◌}
-use Rattle.hop_rule.specs.Boards.{gate_steps}
 use Rattle.hop_rule.specs.Gates.{openings}
-use Rattle.hop_rule.specs.declared.step.BoardStep.TheVariants.{Gate}
 use Rattle.hop_rule.specs.declared.step.GateStep.TheVariants.{Opened}
+use Rattle.hop_board.proofs.Names.{◌<◌, gate_steps, Gate}
 use Rattle.hop_board.proofs.board.Board.unmark.Given as goal
 use Rattle.hop_rule.specs.declared.sizes.TheConstants.{MAX_OPENINGS}
 
