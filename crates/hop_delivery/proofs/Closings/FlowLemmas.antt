@@ -1,32 +1,24 @@
 -- Delivery in order by the lists that are left.
-use Rattle.std.proofs.Common.{◌≡◌, inl, inr, ℕ, ◌≤◌, List, [], ◌∷◌, map, Some, sym, refl, ap}
-use Rattle.std.proofs.Common.{◌∙◌, subst, arith}
-use Rattle.std.specs.List.{range_with_len}
-use Rattle.std.specs.Prelude.{slice_get}
-use Rattle.std.proofs.lemmas.Bool.{cases_lt}
+use Rattle.std.proofs.Common.{map}
 use Rattle.steer_base.specs.Orders.{InOrder}
 use Rattle.steer_base.specs.declared.put.LaneDrop.{LaneDrop}
-use Rattle.linearization.specs.Orders.{StepBy}
 use Rattle.history.specs.Lists.{list_at}
 use Rattle.history.specs.declared.lane_list.LaneList.{LaneList}
-use Rattle.hop_rule.specs.Boards.{IsLawful, accepted, out}
-use Rattle.hop_rule.specs.Owns.{own_of}
-use Rattle.hop_rule.specs.Sizes.{FitSizes}
-use Rattle.hop_rule.specs.declared.sizes.BoardSizes.{BoardSizes}
-use Rattle.hop_rule.specs.declared.step.BoardStep.{BoardStep}
-use Rattle.hop_rule.specs.declared.step.BoardStep.TheVariants.{Lane}
-use Rattle.hop_rule.specs.declared.step.Change.TheVariants.{Offered}
-use Rattle.hop_rule.specs.declared.step.LaneStep.TheVariants.{Freed, Given}
-use Rattle.hop_rule.proofs.Boards.{step_lawful}
+use Rattle.hop_rule.specs.Boards.{out}
+use Rattle.hop_rule.specs.declared.step.LaneStep.TheVariants.{Given}
 use Rattle.hop_rule.proofs.Puts.{each_accepted_was_put, each_member_was_given}
 use Rattle.board_api.specs.Closings.Closings.{AtEachClosing}
-use Rattle.board_api.specs.Closings.Finals.{lane_list, lists_of}
-use Rattle.board_api.proofs.Endings.{at_closings}
+use Rattle.board_api.specs.Closings.Finals.{lane_list}
 use Rattle.board_api.proofs.Left.{lane_is, lane_past, out_is, out_past}
 use Rattle.hop_delivery.specs.Orders.DeliveryLaw.{came_by}
 use Rattle.hop_delivery.specs.Orders.Premises.{MeetsPremises}
+use Rattle.hop_delivery.proofs.Names.{◌≡◌, inl, inr, ℕ, ◌≤◌, List, [], ◌∷◌, Some, sym, refl, ap}
+use Rattle.hop_delivery.proofs.Names.{◌∙◌, subst, arith, range_with_len, slice_get, cases_lt}
+use Rattle.hop_delivery.proofs.Names.{StepBy, IsLawful, accepted, own_of, FitSizes, BoardSizes}
+use Rattle.hop_delivery.proofs.Names.{BoardStep, Lane, Offered, Freed, step_lawful, lists_of}
+use Rattle.hop_delivery.proofs.Names.{at_closings, accepted_left}
 use Rattle.hop_delivery.proofs.Orders.DeliveryLemmas.{delivers_in_order}
-use Rattle.hop_delivery.specs.Closings.FlowLaw.{FlowsAreInOrder, accepted_left}
+use Rattle.hop_delivery.specs.Closings.FlowLaw.{FlowsAreInOrder}
 
 -- a list without a first member is empty
 none-first : (xs : List ℕ) → ((x : ℕ) → slice_get xs 0 ≡ Some x → ⊥) → xs ≡ []

@@ -1,36 +1,30 @@
 -- Puts are of turns, one for each packet, and their answers are places.
-use Rattle.std.proofs.Common.{◌≡◌, ◌≢◌, ℕ, zero, suc, ◌+◌, ◌-◌, List, [], ◌∷◌, ◌++◌}
-use Rattle.std.proofs.Common.{Option, Some, None, length, if◌then◌else◌, sym, refl, ap, ◌∙◌}
-use Rattle.std.proofs.Common.{subst, arith, eq-eqb, ne_eqb}
-use Rattle.std.specs.Prelude.{slice_get}
+use Rattle.std.proofs.Common.{eq-eqb, ne_eqb}
 use Rattle.std.specs.Option.{option_map}
 use Rattle.std.proofs.lemmas.Option.{get_or_from_slice_get, slice_get_within}
-use Rattle.linearization.specs.Orders.{StepBy, steps_of}
 use Rattle.steer_base.specs.Counters.{number}
-use Rattle.steer_base.specs.Drops.{bucket_of, lane_drop_cause}
+use Rattle.steer_base.specs.Drops.{bucket_of}
 use Rattle.steer_base.specs.Entries.{place_in}
 use Rattle.steer_base.specs.Lanes.{LaneLists}
 use Rattle.steer_base.specs.declared.put.DropCause.{DropCause}
-use Rattle.steer_base.specs.declared.put.Put.{Put}
 use Rattle.backlog.specs.Puts.{answer_by, put_by}
 use Rattle.dev_flow_table.specs.Folds.{IsPutAt}
 use Rattle.history.specs.Lists.{lane_at}
-use Rattle.hop_rule.specs.Moments.{IsStep, moment_of, nth_step}
+use Rattle.hop_rule.specs.Moments.{moment_of}
 use Rattle.hop_rule.specs.Owns.{PutMade, put_in, put_made}
-use Rattle.hop_rule.specs.declared.sizes.BoardSizes.{BoardSizes}
-use Rattle.hop_rule.specs.declared.step.BoardStep.{BoardStep}
-use Rattle.hop_rule.proofs.Lists.{none-some, some-is}
-use Rattle.hop_rule.proofs.Moments.{nth-some, past-next}
+use Rattle.hop_rule.proofs.Moments.{past-next}
 use Rattle.hop_rule.proofs.Parts.{from_moment}
 use Rattle.board_api.specs.Lists.{IsFrontOf}
 use Rattle.board_api.specs.Laws.Puts.{AcceptedWerePut, DropsWerePut, PutsStand}
 use Rattle.board_api.specs.OwnSteps.{Has, held_before, put_step}
-use Rattle.board_api.specs.declared.lists.BoardLists.{BoardLists}
-use Rattle.hop_delivery.specs.Closings.FlowLaw.{accepted_left}
 use Rattle.hop_delivery.specs.Closings.PutPlaces.{AnswersArePlaces, AreTurnsOf, HasTurn}
 use Rattle.hop_delivery.specs.Closings.PutPlaces.{PacketsStand, PutsAreOnce, TurnsPutOnce}
-use Rattle.hop_delivery.specs.Orders.Runs.{Execution, turns_of}
-use Rattle.hop_delivery.specs.Orders.Turns.{Turn, turn_put}
+use Rattle.hop_delivery.proofs.Names.{◌≡◌, ◌≢◌, ℕ, zero, suc, ◌+◌, ◌-◌, List, [], ◌∷◌, ◌++◌, Option}
+use Rattle.hop_delivery.proofs.Names.{Some, None, length, if◌then◌else◌, sym, refl, ap, ◌∙◌, subst}
+use Rattle.hop_delivery.proofs.Names.{arith, slice_get, StepBy, steps_of, lane_drop_cause, Put}
+use Rattle.hop_delivery.proofs.Names.{IsStep, nth_step, BoardSizes, BoardStep, none-some, some-is}
+use Rattle.hop_delivery.proofs.Names.{nth-some, BoardLists, accepted_left, Execution, turns_of}
+use Rattle.hop_delivery.proofs.Names.{Turn, turn_put}
 use Rattle.hop_delivery.proofs.Orders.AccountedLemmas.{nth-all}
 use Rattle.hop_delivery.proofs.Orders.PlaceLemmas.{place-get}
 use Rattle.hop_delivery.proofs.Orders.TurnLemmas.{Places, turns_have_places}

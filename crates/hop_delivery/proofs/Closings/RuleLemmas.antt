@@ -1,32 +1,22 @@
 -- A choice by what a queue's turns know is a choice by the settings of their visits.
-use Rattle.std.proofs.Common.{◌≡◌, ℕ, zero, suc, ◌+◌, ◌*◌, ◌<◌, ◌≤◌, ◌==◌, List, [], ◌∷◌, ◌++◌}
-use Rattle.std.proofs.Common.{Bool, true, cond}
-use Rattle.std.proofs.Common.{Option, Some, None, take, drop, if◌then◌else◌, sym, refl, ap, ◌∙◌}
-use Rattle.std.proofs.Common.{arith}
-use Rattle.std.specs.Prelude.{nat_lt, slice_index, unwrap_or}
-use Rattle.steer_base.specs.Choices.{desired_cpu, migrate, rps_choice_of}
-use Rattle.steer_base.specs.Entries.{entry, of_class, current_lane}
+use Rattle.std.proofs.Common.{◌*◌, cond}
+use Rattle.std.specs.Prelude.{unwrap_or}
+use Rattle.steer_base.specs.Choices.{desired_cpu, rps_choice_of}
 use Rattle.steer_base.specs.Sends.{first_filled}
-use Rattle.steer_base.specs.Sets.{at_hash, has, has_queue, those_below}
-use Rattle.steer_base.specs.declared.choice.Chosen.{Chosen}
+use Rattle.steer_base.specs.Sets.{at_hash, has_queue, those_below}
 use Rattle.steer_base.proofs.SetsLemmas.{those_below-more}
-use Rattle.dev_flow_table.specs.Walks.{since_resize}
-use Rattle.hop_rule.specs.Moments.{nth_step}
-use Rattle.hop_rule.specs.declared.sizes.BoardSizes.{BoardSizes}
-use Rattle.hop_rule.specs.declared.step.BoardStep.{BoardStep}
-use Rattle.hop_rule.proofs.Moments.{nth-inside, nth-some}
-use Rattle.board_api.specs.declared.lists.BoardLists.{BoardLists}
-use Rattle.hop_delivery.specs.Orders.ReceiveSettings.{Queues, flows_word, mask, mask_word}
-use Rattle.hop_delivery.specs.Orders.ReceiveSettings.{online_word}
-use Rattle.hop_delivery.specs.Orders.ReceiveSettings.{queues, receive_steering}
-use Rattle.hop_delivery.specs.Orders.Runs.{Execution, Steering, IsByRule, goal_of}
-use Rattle.hop_delivery.specs.Orders.Runs.{settings_of_visit}
-use Rattle.hop_delivery.specs.Orders.Runs.{turns_of}
-use Rattle.hop_delivery.specs.Orders.Runs.{settings_at, word_of}
-use Rattle.hop_delivery.specs.Orders.Turns.{Turn, Explained}
-use Rattle.hop_delivery.specs.Closings.FlowLaw.{accepted_left}
+use Rattle.hop_delivery.specs.Orders.ReceiveSettings.{flows_word, mask, mask_word, queues}
+use Rattle.hop_delivery.specs.Orders.Runs.{IsByRule, settings_of_visit, settings_at, word_of}
 use Rattle.hop_delivery.specs.Closings.TurnReads.{HasSeen, IsBySeen, Knows, RulesAreByReads}
-use Rattle.hop_delivery.specs.Closings.TurnReads.{PicksAreByReads, TurnsKnowSettings}
+use Rattle.hop_delivery.specs.Closings.TurnReads.{PicksAreByReads}
+use Rattle.hop_delivery.proofs.Names.{◌≡◌, ℕ, zero, suc, ◌+◌, ◌<◌, ◌≤◌, ◌==◌, List, [], ◌∷◌, ◌++◌}
+use Rattle.hop_delivery.proofs.Names.{Bool, true, Option, Some, None, take, drop, if◌then◌else◌}
+use Rattle.hop_delivery.proofs.Names.{sym, refl, ap, ◌∙◌, arith, nat_lt, slice_index, migrate}
+use Rattle.hop_delivery.proofs.Names.{entry, of_class, current_lane, has, Chosen, since_resize}
+use Rattle.hop_delivery.proofs.Names.{nth_step, BoardSizes, BoardStep, nth-inside, nth-some}
+use Rattle.hop_delivery.proofs.Names.{BoardLists, Queues, online_word, receive_steering, Execution}
+use Rattle.hop_delivery.proofs.Names.{Steering, goal_of, turns_of, Turn, Explained, accepted_left}
+use Rattle.hop_delivery.proofs.Names.{TurnsKnowSettings}
 
 -- the last resize before a choice, by the shapes up to it
 since-same : (f g : ℕ → ℕ) (i : ℕ) → ((j : ℕ) → j ≤ i → f j ≡ g j)

@@ -1,25 +1,15 @@
 -- What producers did, by the moments of an order: the form of the premises from which the law is
 -- proved.
-use Rattle.std.proofs.Common.{◌≡◌, ℕ, suc, ◌%◌, ◌^◌, ◌<◌, ◌≤◌, true, List, Option, Some}
-use Rattle.std.proofs.Common.{length, take, drop}
-use Rattle.std.specs.Prelude.{slice_get}
-use Rattle.steer_base.specs.Choices.{migrate}
-use Rattle.steer_base.specs.Entries.{entry, of_class, current_lane, position}
-use Rattle.steer_base.specs.declared.choice.Chosen.{Chosen}
-use Rattle.steer_base.specs.declared.put.Put.{Put}
-use Rattle.dev_flow_table.specs.Walks.{since_resize}
 use Rattle.hop_model.specs.Hop.{chosen_at}
-use Rattle.linearization.specs.Orders.{StepBy}
-use Rattle.hop_rule.specs.Boards.{accepted, retired, settings}
+use Rattle.hop_rule.specs.Boards.{retired}
 use Rattle.hop_rule.specs.Emptied.{WasEmptied}
-use Rattle.hop_rule.specs.Moments.{past, IsStep}
-use Rattle.hop_rule.specs.PutLaws.{IsPut, IsDelivery}
-use Rattle.hop_rule.specs.Sizes.{closer}
-use Rattle.hop_rule.specs.declared.sizes.BoardSizes.{BoardSizes}
-use Rattle.hop_rule.specs.declared.step.BoardStep.{BoardStep}
-use Rattle.hop_rule.specs.declared.step.BoardStep.TheVariants.{Gate, Weighed}
-use Rattle.hop_rule.specs.declared.step.GateStep.TheVariants.{Entered, Left, Set}
-use Rattle.hop_delivery.specs.Orders.Runs.{Steering, goal_of}
+use Rattle.hop_rule.specs.PutLaws.{IsDelivery}
+use Rattle.hop_delivery.proofs.Names.{◌≡◌, ℕ, suc, ◌%◌, ◌^◌, ◌<◌, ◌≤◌, true, List, Option, Some}
+use Rattle.hop_delivery.proofs.Names.{length, take, drop, slice_get, migrate, entry, of_class}
+use Rattle.hop_delivery.proofs.Names.{current_lane, position, Chosen, Put, since_resize, StepBy}
+use Rattle.hop_delivery.proofs.Names.{accepted, settings, past, IsStep, IsPut, closer, BoardSizes}
+use Rattle.hop_delivery.proofs.Names.{BoardStep, Gate, Weighed, Entered, Left, Set, Steering}
+use Rattle.hop_delivery.proofs.Names.{goal_of}
 
 -- Of each producer: its arrivals and choices, how many of these were put and by which seat, and of
 -- the i-th choice the moments of the entry of its visit and of its put.

@@ -1,39 +1,23 @@
 -- An execution that meets the premises gives an account in the moments of the order.
-use Rattle.std.proofs.Common.{◌≡◌, ℕ, zero, suc, ◌+◌, ◌-◌, ◌%◌, ◌^◌, ◌<◌, ◌≤◌, ◌==◌, true}
-use Rattle.std.proofs.Common.{List, [], ◌∷◌, ◌++◌, Option, Some, length, length-append, take}
-use Rattle.std.proofs.Common.{drop, if◌then◌else◌, sym, refl, ap, ◌∙◌, subst, arith, inl, inr}
-use Rattle.std.specs.Prelude.{slice_get, slice_index, All}
+use Rattle.std.proofs.Common.{length-append}
+use Rattle.std.specs.Prelude.{All}
 use Rattle.std.specs.List.{Contains}
 use Rattle.std.proofs.lemmas.List.{take-append-drop, length-drop}
 use Rattle.std.proofs.lemmas.List.Elements.{All-head, All-tail}
 use Rattle.std.proofs.lemmas.Option.{get_or_from_slice_get, slice_get_within}
-use Rattle.steer_base.specs.Choices.{migrate}
-use Rattle.steer_base.specs.Entries.{entry, of_class, current_lane}
-use Rattle.steer_base.specs.declared.choice.Chosen.{Chosen}
-use Rattle.steer_base.specs.declared.put.Put.{Put}
-use Rattle.dev_flow_table.specs.Walks.{since_resize}
 use Rattle.hop_model.specs.Hop.{nobody}
-use Rattle.linearization.specs.Orders.{StepBy, step_by, steps_of}
-use Rattle.linearization.proofs.ListLemmas.{if_same, if_other}
-use Rattle.hop_rule.specs.Boards.{IsLawful, accepted, gate_steps, settings}
+use Rattle.linearization.specs.Orders.{step_by}
+use Rattle.hop_rule.specs.Boards.{gate_steps}
 use Rattle.hop_rule.specs.Emptied.{WasEmptied}
 use Rattle.hop_rule.specs.Gates as gates
-use Rattle.hop_rule.specs.Moments.{Did, IsStep, past, nth_step, moment_of}
-use Rattle.hop_rule.specs.Owns.{own_of}
-use Rattle.hop_rule.specs.PutLaws.{IsPut}
-use Rattle.hop_rule.specs.Sizes.{FitSizes, closer}
-use Rattle.hop_rule.specs.declared.sizes.BoardSizes.{BoardSizes}
-use Rattle.hop_rule.specs.declared.step.BoardStep.{BoardStep}
-use Rattle.hop_rule.specs.declared.step.BoardStep.TheVariants.{Lane, Gate, Weighed, Counted}
-use Rattle.hop_rule.specs.declared.step.BoardStep.TheVariants.{LaneOut, LaneIn, OutCounted}
-use Rattle.hop_rule.specs.declared.step.Change.TheVariants.{Offered}
+use Rattle.hop_rule.specs.Moments.{Did, moment_of}
+use Rattle.hop_rule.specs.declared.step.BoardStep.TheVariants.{Counted, LaneOut, LaneIn, OutCounted}
 use Rattle.hop_rule.specs.declared.step.GateStep.{GateStep}
-use Rattle.hop_rule.specs.declared.step.GateStep.TheVariants.{Entered, Turned, Left, Shut, NotShut}
-use Rattle.hop_rule.specs.declared.step.GateStep.TheVariants.{Opened, Set, Read}
-use Rattle.hop_rule.specs.declared.step.LaneStep.TheVariants.{Freed, Given}
-use Rattle.hop_rule.proofs.Lists.{get-inside, none-some}
-use Rattle.hop_rule.proofs.Moments.{nth-inside, nth-last, nth-old, nth-some, past-all, past-old}
-use Rattle.hop_rule.proofs.Moments.{nth-first, nth-member, past-next, step-inside}
+use Rattle.hop_rule.specs.declared.step.GateStep.TheVariants.{Turned, Shut, NotShut, Opened, Read}
+use Rattle.hop_rule.specs.declared.step.LaneStep.TheVariants.{Given}
+use Rattle.hop_rule.proofs.Lists.{get-inside}
+use Rattle.hop_rule.proofs.Moments.{nth-last, nth-old, past-all, past-old, nth-first, nth-member}
+use Rattle.hop_rule.proofs.Moments.{past-next}
 use Rattle.hop_rule.proofs.Numbers.{rise, none_between}
 use Rattle.hop_rule.proofs.Openings.{settings_are_the_closers, visits_show_settings}
 use Rattle.hop_rule.proofs.Boards.{lawful_past}
@@ -43,8 +27,17 @@ use Rattle.hop_delivery.specs.Orders.Premises.{MeetsPremises, WasFoundEmpty, Fin
 use Rattle.hop_delivery.specs.Orders.Premises.{AllFindEmpty}
 use Rattle.hop_delivery.specs.Orders.Premises.{GoesRight}
 use Rattle.hop_delivery.specs.Orders.Runs as executions
-use Rattle.hop_delivery.specs.Orders.Runs.{Execution, Steering, turns_of, word_of}
-use Rattle.hop_delivery.specs.Orders.Turns.{Turn, turn_put}
+use Rattle.hop_delivery.specs.Orders.Runs.{word_of}
+use Rattle.hop_delivery.proofs.Names.{◌≡◌, ℕ, zero, suc, ◌+◌, ◌-◌, ◌%◌, ◌^◌, ◌<◌, ◌≤◌, ◌==◌, true}
+use Rattle.hop_delivery.proofs.Names.{List, [], ◌∷◌, ◌++◌, Option, Some, length, take, drop}
+use Rattle.hop_delivery.proofs.Names.{if◌then◌else◌, sym, refl, ap, ◌∙◌, subst, arith, inl, inr}
+use Rattle.hop_delivery.proofs.Names.{slice_get, slice_index, migrate, entry, of_class}
+use Rattle.hop_delivery.proofs.Names.{current_lane, Chosen, Put, since_resize, StepBy, steps_of}
+use Rattle.hop_delivery.proofs.Names.{if_same, if_other, IsLawful, accepted, settings, IsStep, past}
+use Rattle.hop_delivery.proofs.Names.{nth_step, own_of, IsPut, FitSizes, closer, BoardSizes}
+use Rattle.hop_delivery.proofs.Names.{BoardStep, Lane, Gate, Weighed, Offered, Entered, Left, Set}
+use Rattle.hop_delivery.proofs.Names.{Freed, none-some, nth-inside, nth-some, step-inside}
+use Rattle.hop_delivery.proofs.Names.{Execution, Steering, turns_of, Turn, turn_put}
 use Rattle.hop_delivery.proofs.Orders.AccountLemmas.{Account, IsAccount, IsRuled, HasVisit}
 use Rattle.hop_delivery.proofs.Orders.AccountLemmas.{WasLoaded, chosen}
 use Rattle.hop_delivery.proofs.Orders.TurnLemmas.{Places, VisitAt, turns_have_places, nth-split}

@@ -1,12 +1,9 @@
 -- The lanes that have to be empty for the settings of a command are among those that it affects.
-use Rattle.std.proofs.Common.{◌≡◌, ◌⊎◌, inl, inr, ℕ, zero, suc, ◌+◌, ◌<◌, Bool, true, false, not}
-use Rattle.std.proofs.Common.{List, [], ◌∷◌, refl, sym, ap, ◌∙◌}
-use Rattle.std.specs.Prelude.{◌==◌, ◌&&◌, ◌||◌, nat_lt, if◌then◌else◌}
-use Rattle.std.specs.List.{list_any, range_with_len}
-use Rattle.std.proofs.lemmas.Bool.{cases_Bool, true≢false, eq-eqb, lt-ltb}
+use Rattle.std.specs.Prelude.{◌==◌, ◌&&◌, ◌||◌, if◌then◌else◌}
+use Rattle.std.proofs.lemmas.Bool.{lt-ltb}
 use Rattle.std.proofs.lemmas.List.Elements.{All-nil, All-cons}
 use Rattle.steer_base.specs.Commands.{is_affected}
-use Rattle.steer_base.specs.Sets.{has, with_cpu, without_cpu}
+use Rattle.steer_base.specs.Sets.{with_cpu, without_cpu}
 use Rattle.steer_base.specs.declared.command.Command.{Command}
 use Rattle.steer_base.specs.declared.command.Command.TheVariants.{Mask, Flows, Sock, Offline}
 use Rattle.steer_base.specs.declared.command.Command.TheVariants.{Online, XCpus, XQueues, Reta}
@@ -17,10 +14,13 @@ use Rattle.hop_delivery.specs.Orders.Commands.{SettingChange, made, received_set
 use Rattle.hop_delivery.specs.Orders.Commands.{NamesCpu}
 use Rattle.hop_delivery.specs.Orders.Commands.{AreAffected}
 use Rattle.hop_delivery.specs.Orders.Commands.{ReceivedCommandsEmpty, SentCommandsEmpty}
-use Rattle.hop_delivery.specs.Orders.ReceiveSettings.{Queues, came_on, empty_for_mask}
-use Rattle.hop_delivery.specs.Orders.ReceiveSettings.{must_be_empty, online}
-use Rattle.hop_delivery.specs.Orders.ReceiveSettings.{online_word, receive_steering}
+use Rattle.hop_delivery.specs.Orders.ReceiveSettings.{came_on, empty_for_mask, must_be_empty}
+use Rattle.hop_delivery.specs.Orders.ReceiveSettings.{online}
 use Rattle.hop_delivery.specs.Orders.TransmitSettings.{transmit_steering}
+use Rattle.hop_delivery.proofs.Names.{◌≡◌, ◌⊎◌, inl, inr, ℕ, zero, suc, ◌+◌, ◌<◌, Bool, true, false}
+use Rattle.hop_delivery.proofs.Names.{not, List, [], ◌∷◌, refl, sym, ap, ◌∙◌, nat_lt, list_any}
+use Rattle.hop_delivery.proofs.Names.{range_with_len, cases_Bool, true≢false, eq-eqb, has, Queues}
+use Rattle.hop_delivery.proofs.Names.{online_word, receive_steering}
 
 -- of one setting
 one : (P : SettingChange → Type 0) (m : SettingChange) → P m → Rattle.std.specs.Prelude.All P

@@ -1,38 +1,28 @@
 -- Delivery in order, from the premises.
-use Rattle.std.proofs.Common.{◌≡◌, inl, inr, ℕ, zero, suc, ◌-◌, ◌<◌, ◌==◌, ◌||◌}
-use Rattle.std.proofs.Common.{◌&&◌, Bool, true, false, not, List, [], ◌∷◌, ◌++◌, length, sym, refl}
-use Rattle.std.proofs.Common.{ap, ◌∙◌, subst, arith, Option, Some, None}
-use Rattle.std.specs.Prelude.{slice_get}
-use Rattle.std.specs.List.{list_any}
-use Rattle.std.proofs.lemmas.Bool.{cases_Bool, true≢false, eqb-true, eq-eqb, not-true}
-use Rattle.steer_base.specs.Drops.{lane_drop_cause}
-use Rattle.steer_base.specs.Entries.{position}
+use Rattle.std.proofs.Common.{◌||◌, ◌&&◌}
+use Rattle.std.proofs.lemmas.Bool.{eqb-true, not-true}
 use Rattle.steer_base.specs.Orders.{was_dropped, InOrder}
-use Rattle.steer_base.specs.declared.choice.Chosen.{Chosen}
 use Rattle.steer_base.specs.declared.put.DropCause.{DropCause}
 use Rattle.steer_base.specs.declared.put.LaneDrop.{LaneDrop}
-use Rattle.steer_base.specs.declared.put.Put.{Put}
 use Rattle.backlog.specs.Puts.{after_put, put_by}
-use Rattle.linearization.specs.Orders.{StepBy}
-use Rattle.hop_rule.specs.Boards.{IsLawful, accepted, drops, drops_at, lanes_of, out}
+use Rattle.hop_rule.specs.Boards.{drops, drops_at, lanes_of, out}
 use Rattle.hop_rule.specs.Deliveries.{Delivery, delivery, delivered_from}
 use Rattle.hop_rule.specs.Lanes as lanes
-use Rattle.hop_rule.specs.Moments.{nth_step}
-use Rattle.hop_rule.specs.PutLaws.{IsPut, lane_then}
-use Rattle.hop_rule.specs.Sizes.{FitSizes}
-use Rattle.hop_rule.specs.declared.sizes.BoardSizes.{BoardSizes}
-use Rattle.hop_rule.specs.declared.step.BoardStep.{BoardStep}
-use Rattle.hop_rule.specs.declared.step.LaneStep.{LaneStep}
+use Rattle.hop_rule.specs.PutLaws.{lane_then}
 use Rattle.hop_rule.proofs.Boards.{parts}
 use Rattle.hop_rule.proofs.Deliveries.{Each, nth-each, ids_at, facts, stands, rises, same_lane}
 use Rattle.hop_rule.proofs.Fronts.{front-get, get-pushed}
 use Rattle.hop_rule.proofs.Heads.{passed_since}
-use Rattle.hop_rule.proofs.Lists.{some-is, none-some}
 use Rattle.hop_rule.proofs.Members.{each_given, out_given}
-use Rattle.hop_rule.proofs.Moments.{step-inside}
 use Rattle.hop_rule.proofs.Puts.{puts_right, was_put, was_dropped as drop_was_put}
 use Rattle.hop_delivery.specs.Orders.DeliveryLaw.{DeliversInOrder}
-use Rattle.hop_delivery.specs.Orders.Runs.{Steering, IsSteering}
+use Rattle.hop_delivery.proofs.Names.{◌≡◌, inl, inr, ℕ, zero, suc, ◌-◌, ◌<◌, ◌==◌, Bool, true}
+use Rattle.hop_delivery.proofs.Names.{false, not, List, [], ◌∷◌, ◌++◌, length, sym, refl, ap, ◌∙◌}
+use Rattle.hop_delivery.proofs.Names.{subst, arith, Option, Some, None, slice_get, list_any}
+use Rattle.hop_delivery.proofs.Names.{cases_Bool, true≢false, eq-eqb, lane_drop_cause, position}
+use Rattle.hop_delivery.proofs.Names.{Chosen, Put, StepBy, IsLawful, accepted, nth_step, IsPut}
+use Rattle.hop_delivery.proofs.Names.{FitSizes, BoardSizes, BoardStep, LaneStep, some-is, none-some}
+use Rattle.hop_delivery.proofs.Names.{step-inside, Steering, IsSteering}
 use Rattle.hop_delivery.proofs.Orders.AccountedLemmas.{account, is_account}
 use Rattle.hop_delivery.proofs.Orders.AccountLemmas.{Account, IsAccount, At, chosen, lane_chosen}
 use Rattle.hop_delivery.proofs.Orders.FilterLemmas.{any-of, any-at, any-range, range-any}

@@ -1,28 +1,19 @@
 -- A setting that ends what a test says finds empty the lanes that it affects: what was put there by
 -- an earlier visit was
 -- retired before a later visit's put.
-use Rattle.std.proofs.Common.{◌≡◌, ◌≢◌, inl, inr, ℕ, ◌<◌, ◌≤◌, Bool, true, false, List}
-use Rattle.std.proofs.Common.{sym, ap, subst, arith}
-use Rattle.std.proofs.lemmas.Bool.{cases_eq, cases_lt}
-use Rattle.linearization.specs.Orders.{StepBy}
-use Rattle.hop_rule.specs.Boards.{gates_of, IsLawful, settings}
-use Rattle.hop_rule.specs.Gates.{with_setting}
-use Rattle.hop_rule.specs.Moments.{past, IsStep}
-use Rattle.hop_rule.specs.Sizes.{FitSizes, closer}
-use Rattle.hop_rule.specs.declared.sizes.BoardSizes.{BoardSizes}
-use Rattle.hop_rule.specs.declared.step.BoardStep.{BoardStep}
-use Rattle.hop_rule.specs.declared.step.BoardStep.TheVariants.{Lane, Gate}
-use Rattle.hop_rule.specs.declared.step.Change.TheVariants.{Offered}
+use Rattle.hop_rule.specs.Boards.{gates_of}
 use Rattle.hop_rule.specs.declared.step.GateStep.{GateStep}
-use Rattle.hop_rule.specs.declared.step.GateStep.TheVariants.{Entered, Shut, Opened, Set}
-use Rattle.hop_rule.specs.declared.step.LaneStep.{LaneStep}
-use Rattle.hop_rule.specs.declared.step.LaneStep.TheVariants.{Freed}
-use Rattle.hop_rule.proofs.Boards.{gates_past, step_lawful, retired_later}
+use Rattle.hop_rule.specs.declared.step.GateStep.TheVariants.{Shut, Opened}
+use Rattle.hop_rule.proofs.Boards.{gates_past, retired_later}
 use Rattle.hop_rule.proofs.EarlyFirst.{emptied}
 use Rattle.hop_rule.proofs.Gates.{unshut}
 use Rattle.hop_rule.proofs.Moments.{one-step}
 use Rattle.hop_rule.proofs.Visits.{set_between, inside_at, closed_at}
-use Rattle.hop_delivery.specs.Orders.Runs.{Steering}
+use Rattle.hop_delivery.proofs.Names.{◌≡◌, ◌≢◌, inl, inr, ℕ, ◌<◌, ◌≤◌, Bool, true, false, List, sym}
+use Rattle.hop_delivery.proofs.Names.{ap, subst, arith, cases_eq, cases_lt, StepBy, IsLawful}
+use Rattle.hop_delivery.proofs.Names.{settings, with_setting, past, IsStep, FitSizes, closer}
+use Rattle.hop_delivery.proofs.Names.{BoardSizes, BoardStep, Lane, Gate, Offered, Entered, Set}
+use Rattle.hop_delivery.proofs.Names.{LaneStep, Freed, step_lawful, Steering}
 use Rattle.hop_delivery.proofs.Orders.AccountLemmas.{Account, IsAccount, At, chosen, lane_chosen}
 use Rattle.hop_delivery.proofs.Orders.AccountLemmas.{retired_at}
 use Rattle.hop_delivery.proofs.Orders.AccountLemmas.{settings_at}

@@ -1,13 +1,14 @@
 -- Order of two lists of which a part is looked at.
-use Rattle.std.proofs.Common.{◌≡◌, inl, inr, ℕ, zero, suc, ◌+◌, ◌<◌, ◌≤◌, ◌||◌, Bool, true, false}
-use Rattle.std.proofs.Common.{List, [], ◌∷◌, length, sym, refl, ap, ◌∙◌, arith, Some, take}
-use Rattle.std.specs.Prelude.{slice_get, slice_index, filter, map}
-use Rattle.std.specs.List.{list_any, range_with_len}
-use Rattle.std.proofs.lemmas.Bool.{cases_Bool, cases_eq, cases_lt, true≢false}
+use Rattle.std.proofs.Common.{◌||◌}
+use Rattle.std.specs.Prelude.{filter, map}
 use Rattle.steer_base.specs.Orders.{IsPrefix}
 use Rattle.hop_model.specs.Pairs.{Pairwise}
 use Rattle.hop_model.proofs.Pairs.{prefix_from_pairs}
-use Rattle.hop_rule.proofs.Lists.{some-is, none-some, get-inside}
+use Rattle.hop_rule.proofs.Lists.{get-inside}
+use Rattle.hop_delivery.proofs.Names.{◌≡◌, inl, inr, ℕ, zero, suc, ◌+◌, ◌<◌, ◌≤◌, Bool, true, false}
+use Rattle.hop_delivery.proofs.Names.{List, [], ◌∷◌, length, sym, refl, ap, ◌∙◌, arith, Some, take}
+use Rattle.hop_delivery.proofs.Names.{slice_get, slice_index, list_any, range_with_len, cases_Bool}
+use Rattle.hop_delivery.proofs.Names.{cases_eq, cases_lt, true≢false, some-is, none-some}
 
 pub get-of : (xs : List ℕ) (i : ℕ) → i < length xs → slice_get xs i ≡ Some (slice_index xs i)
 get-of [] i l = absurd (omega arith)

@@ -1,34 +1,18 @@
 -- The puts of an account, and where its packets stand.
-use Rattle.std.proofs.Common.{◌≡◌, ◌≢◌, inl, inr, ℕ, zero, suc, ◌-◌, ◌<◌, ◌≤◌, List, [], ◌∷◌}
-use Rattle.std.proofs.Common.{length, sym, refl, ap, ◌∙◌, subst, arith, Option, Some, None}
-use Rattle.std.specs.Prelude.{slice_get}
 use Rattle.std.specs.Option.{option_map}
-use Rattle.std.proofs.lemmas.Bool.{cases_eq}
-use mathlib.Core.Logic.{dite}
-use native.Mathlib.Decide.{ℕ_discrete}
-use Rattle.steer_base.specs.Drops.{lane_drop_cause}
 use Rattle.steer_base.specs.Entries.{place_in}
-use Rattle.steer_base.specs.declared.choice.Chosen.{Chosen}
-use Rattle.steer_base.specs.declared.put.Put.{Put}
 use Rattle.steer_base.proofs.EntriesLemmas.{place_in-le}
-use Rattle.linearization.specs.Orders.{StepBy}
-use Rattle.linearization.proofs.ListLemmas.{if_same, if_other}
-use Rattle.hop_rule.specs.Boards.{IsLawful, accepted}
 use Rattle.hop_rule.specs.Boards as boards
-use Rattle.hop_rule.specs.Moments.{past}
-use Rattle.hop_rule.specs.PutLaws.{IsPut, lane_then}
-use Rattle.hop_rule.specs.declared.sizes.BoardSizes.{BoardSizes}
-use Rattle.hop_rule.specs.declared.step.BoardStep.{BoardStep}
-use Rattle.hop_rule.specs.declared.step.BoardStep.TheVariants.{Lane}
+use Rattle.hop_rule.specs.PutLaws.{lane_then}
 use Rattle.hop_rule.specs.declared.step.Change.{Change}
-use Rattle.hop_rule.specs.declared.step.Change.TheVariants.{Offered}
-use Rattle.hop_rule.specs.declared.step.LaneStep.{LaneStep}
-use Rattle.hop_rule.specs.declared.step.LaneStep.TheVariants.{Freed}
-use Rattle.hop_rule.proofs.Boards.{step_lawful}
-use Rattle.hop_rule.proofs.Lists.{some-is, none-some}
-use Rattle.hop_rule.proofs.Moments.{past-all, step-inside, one-step}
+use Rattle.hop_rule.proofs.Moments.{past-all, one-step}
 use Rattle.hop_rule.proofs.Puts.{was_put, put_stands, put_counts}
-use Rattle.hop_delivery.specs.Orders.Runs.{Steering}
+use Rattle.hop_delivery.proofs.Names.{◌≡◌, ◌≢◌, inl, inr, ℕ, zero, suc, ◌-◌, ◌<◌, ◌≤◌, List, []}
+use Rattle.hop_delivery.proofs.Names.{◌∷◌, length, sym, refl, ap, ◌∙◌, subst, arith, Option, Some}
+use Rattle.hop_delivery.proofs.Names.{None, slice_get, cases_eq, dite, ℕ_discrete, lane_drop_cause}
+use Rattle.hop_delivery.proofs.Names.{Chosen, Put, StepBy, if_same, if_other, IsLawful, accepted}
+use Rattle.hop_delivery.proofs.Names.{past, IsPut, BoardSizes, BoardStep, Lane, Offered, LaneStep}
+use Rattle.hop_delivery.proofs.Names.{Freed, step_lawful, some-is, none-some, step-inside, Steering}
 use Rattle.hop_delivery.proofs.Orders.AccountLemmas.{Account, IsAccount, At, chosen, lane_chosen}
 
 -- ---- where a packet stands in a list

@@ -1,24 +1,16 @@
 -- The turns that explain a list have places in it.
-use Rattle.std.proofs.Common.{◌≡◌, ◌⊎◌, inl, inr, ℕ, ◌+◌, ◌==◌, ◌<◌, List, [], ◌∷◌}
-use Rattle.std.proofs.Common.{◌++◌, length, length-append, append_assoc, Option, Some, None}
-use Rattle.std.proofs.Common.{if◌then◌else◌, sym, refl, ap, ◌∙◌, subst, arith}
+use Rattle.std.proofs.Common.{length-append, append_assoc}
 use Rattle.std.specs.List.{filter_map, cons_option}
 use Rattle.std.proofs.lemmas.List.Elements.{filter_map-append}
-use mathlib.Core.Logic.{dite}
-use native.Mathlib.Decide.{ℕ_discrete}
-use Rattle.linearization.specs.Orders.{StepBy}
-use Rattle.linearization.proofs.ListLemmas.{if_same, if_other}
-use Rattle.steer_base.specs.declared.put.Put.{Put}
-use Rattle.hop_rule.specs.Moments.{nth_step}
 use Rattle.hop_rule.specs.Owns.{put_in, puts_of, visit_in, visits_of}
-use Rattle.hop_rule.specs.declared.step.BoardStep.{BoardStep}
-use Rattle.hop_rule.specs.declared.step.BoardStep.TheVariants.{Lane, Gate}
-use Rattle.hop_rule.specs.declared.step.Change.TheVariants.{Offered}
-use Rattle.hop_rule.specs.declared.step.GateStep.TheVariants.{Entered, Left}
-use Rattle.hop_rule.specs.declared.step.LaneStep.TheVariants.{Freed}
-use Rattle.hop_rule.proofs.Lists.{some-is, none-some}
-use Rattle.hop_rule.proofs.Moments.{nth-first, nth-inside, nth-last, nth-old}
-use Rattle.hop_delivery.specs.Orders.Turns.{Turn, turn_put, AreQuiet, Explained, visit_with}
+use Rattle.hop_rule.proofs.Moments.{nth-first, nth-last, nth-old}
+use Rattle.hop_delivery.specs.Orders.Turns.{AreQuiet, visit_with}
+use Rattle.hop_delivery.proofs.Names.{◌≡◌, ◌⊎◌, inl, inr, ℕ, ◌+◌, ◌==◌, ◌<◌, List, [], ◌∷◌, ◌++◌}
+use Rattle.hop_delivery.proofs.Names.{length, Option, Some, None, if◌then◌else◌, sym, refl, ap, ◌∙◌}
+use Rattle.hop_delivery.proofs.Names.{subst, arith, dite, ℕ_discrete, StepBy, if_same, if_other}
+use Rattle.hop_delivery.proofs.Names.{Put, nth_step, BoardStep, Lane, Gate, Offered, Entered, Left}
+use Rattle.hop_delivery.proofs.Names.{Freed, some-is, none-some, nth-inside, Turn, turn_put}
+use Rattle.hop_delivery.proofs.Names.{Explained}
 
 -- ---- steps of a list in parts
 

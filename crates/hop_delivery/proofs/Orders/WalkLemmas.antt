@@ -1,33 +1,26 @@
 -- Two choices of one flow of one producer: where they have different lanes, the earlier packet was
 -- retired before the
 -- later one was put.
-use Rattle.std.proofs.Common.{ℕ, zero, suc, ◌+◌, ◌-◌, ◌^◌, ◌%◌, ◌≤◌, ◌<◌, ◌≡◌, ◌⊎◌, inl, inr, Bool}
-use Rattle.std.proofs.Common.{true, false, List, [], ◌∷◌, Option, Some, None, length, refl}
-use Rattle.std.proofs.Common.{ap, ◌∙◌, sym, arith, take, drop, subst, get_or}
+use Rattle.std.proofs.Common.{get_or}
 use Rattle.std.specs.Prelude.{◌==◌, slice_index_or}
-use Rattle.std.proofs.lemmas.Bool.{cases_Bool, cases_eq, cases_lt, eq-eqb, ne_eqb, eqb-true}
-use Rattle.std.proofs.lemmas.Bool.{true≢false}
+use Rattle.std.proofs.lemmas.Bool.{ne_eqb, eqb-true}
 use Rattle.std.proofs.lemmas.List.{get_or-drop, get_or-take, length-drop, length-take-le, drop-take}
-use Rattle.steer_base.specs.Choices.{migrate}
-use Rattle.steer_base.specs.Entries.{entry, position}
 use Rattle.steer_base.specs.declared.choice.Choice.{Choice}
-use Rattle.steer_base.specs.declared.choice.Chosen.{Chosen}
 use Rattle.steer_base.specs.declared.choice.Entry.{Entry}
 use Rattle.steer_base.proofs.RuleLemmas.{by_entry-class, by_entry-online}
 use Rattle.dev_flow_table.specs.Walks.{IsRuled as IsRuledAt, IsWalk, since_resize}
 use Rattle.dev_flow_table.proofs.WalksLemmas.{since_is_last_change, walk_keeps_order}
 use Rattle.hop_model.specs.Hop.{nobody}
-use Rattle.linearization.specs.Orders.{StepBy}
-use Rattle.hop_rule.specs.Boards.{IsLawful, accepted, retired}
-use Rattle.hop_rule.specs.Gates.{with_setting}
-use Rattle.hop_rule.specs.Moments.{past}
-use Rattle.hop_rule.specs.Sizes.{FitSizes}
-use Rattle.hop_rule.specs.declared.sizes.BoardSizes.{BoardSizes}
+use Rattle.hop_rule.specs.Boards.{retired}
 use Rattle.hop_rule.specs.declared.sizes.TheConstants.{MAX_BOARD_ROOM}
-use Rattle.hop_rule.specs.declared.step.BoardStep.{BoardStep}
-use Rattle.hop_rule.specs.declared.step.BoardStep.TheVariants.{Weighed}
-use Rattle.hop_rule.proofs.Boards.{few, lawful_past, retired_later, step_lawful}
-use Rattle.hop_delivery.specs.Orders.Runs.{IsSteering, Steering, goal_of}
+use Rattle.hop_rule.proofs.Boards.{few, lawful_past, retired_later}
+use Rattle.hop_delivery.proofs.Names.{ℕ, zero, suc, ◌+◌, ◌-◌, ◌^◌, ◌%◌, ◌≤◌, ◌<◌, ◌≡◌, ◌⊎◌, inl}
+use Rattle.hop_delivery.proofs.Names.{inr, Bool, true, false, List, [], ◌∷◌, Option, Some, None}
+use Rattle.hop_delivery.proofs.Names.{length, refl, ap, ◌∙◌, sym, arith, take, drop, subst}
+use Rattle.hop_delivery.proofs.Names.{cases_Bool, cases_eq, cases_lt, eq-eqb, true≢false, migrate}
+use Rattle.hop_delivery.proofs.Names.{entry, position, Chosen, StepBy, IsLawful, accepted}
+use Rattle.hop_delivery.proofs.Names.{with_setting, past, FitSizes, BoardSizes, BoardStep, Weighed}
+use Rattle.hop_delivery.proofs.Names.{step_lawful, IsSteering, Steering, goal_of}
 use Rattle.hop_delivery.proofs.Orders.AccountLemmas.{Account, IsAccount, IsRuled, At, before}
 use Rattle.hop_delivery.proofs.Orders.AccountLemmas.{chosen, class_at}
 use Rattle.hop_delivery.proofs.Orders.AccountLemmas.{flow_at, lane_chosen, retired_at, settings_at}
