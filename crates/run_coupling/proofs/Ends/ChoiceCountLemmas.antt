@@ -1,16 +1,10 @@
 -- The arrivals of all queues are all arrivals, so equal totals give each arrival its choice.
-use Rattle.std.proofs.Common.{◌≡◌, ℕ, zero, suc, ◌<◌, ◌≤◌}
-use Rattle.std.proofs.Common.{List, [], ◌∷◌, ◌++◌, length, map, All, sym, refl, ap, ◌∙◌, arith}
-use Rattle.std.proofs.Common.{length-append}
-use Rattle.std.proofs.lemmas.Bool.{eq-eqb, ne_eqb}
-use Rattle.std.proofs.lemmas.List.{length-map}
-use Rattle.std.proofs.lemmas.List.Elements.{All-head, All-tail}
-use Rattle.steer_base.specs.declared.choice.Chosen.{Chosen}
 use Rattle.history.specs.Lists.{arrivals_at}
-use Rattle.history.specs.declared.arrival.Arrival.{Arrival}
-use Rattle.hop_rule.specs.Events.{sum_below}
 use Rattle.hop_rule.proofs.Gates.{sum_one}
 use Rattle.run_coupling.specs.Laws.Ends.{ChoicesSuffice}
+use Rattle.run_coupling.proofs.Names.{◌≡◌, ℕ, zero, suc, ◌<◌, ◌≤◌, List, [], ◌∷◌, ◌++◌, length, map}
+use Rattle.run_coupling.proofs.Names.{All, sym, refl, ap, ◌∙◌, arith, length-append, eq-eqb, ne_eqb}
+use Rattle.run_coupling.proofs.Names.{length-map, All-head, All-tail, Chosen, Arrival, sum_below}
 use Rattle.run_coupling.proofs.Lists.PlaceLemmas.{if_there, split-arrivals}
 use Rattle.run_coupling.proofs.Lists.SumLemmas.{each-equal}
 

@@ -1,42 +1,29 @@
 -- All is done where the tallies are equal.
-use Rattle.std.proofs.Common.{◌≡◌, ◌⊎◌, inl, inr, ℕ, ◌-◌, ◌<◌, true, List, [], ◌∷◌, ◌++◌, Option}
-use Rattle.std.proofs.Common.{Some, None, length, map, All, sym, refl, ap, ◌∙◌, arith}
-use Rattle.std.specs.Prelude.{slice_get}
-use Rattle.std.specs.List.{cons_option, filter_map}
-use Rattle.std.proofs.lemmas.List.Elements.{All-from_get_or}
-use mathlib.Core.Logic.{dite}
-use native.Mathlib.Decide.{ℕ_discrete}
-use Rattle.linearization.proofs.ListLemmas.{if_same, if_other}
 use Rattle.steer_base.specs.Drops.{bucket_of, lane_drop_cause}
 use Rattle.steer_base.specs.Lanes.{LaneLists}
 use Rattle.steer_base.specs.declared.put.DropCause.{DropCause}
-use Rattle.steer_base.specs.declared.put.LaneDrop.{LaneDrop}
 use Rattle.steer_base.specs.declared.put.Put.{Put}
 use Rattle.backlog.specs.Puts.{put_by}
-use Rattle.history.specs.Finding.{is_in}
-use Rattle.history.specs.Lists.{drop_ids, lane_at, no_lane}
+use Rattle.history.specs.Lists.{drop_ids, no_lane}
 use Rattle.history.proofs.FindingLemmas.{is_in-here, is_in-past}
-use Rattle.hop_rule.specs.Deliveries.{Delivery, delivery}
-use Rattle.hop_rule.specs.Moments.{nth_step}
-use Rattle.hop_rule.specs.Sizes.{puller}
-use Rattle.hop_rule.specs.declared.sizes.BoardSizes.{BoardSizes}
-use Rattle.hop_rule.specs.declared.step.BoardStep.{BoardStep}
-use Rattle.hop_rule.specs.declared.step.BoardStep.TheVariants.{Lane, Gate, Weighed, Counted}
-use Rattle.hop_rule.specs.declared.step.BoardStep.TheVariants.{OutCounted, LaneOut, LaneIn}
-use Rattle.hop_rule.specs.declared.step.LaneStep.TheVariants.{Held, Missed, Freed, OutHeld}
-use Rattle.hop_rule.specs.declared.step.LaneStep.TheVariants.{OutMissed, OutFreed, Given, Retired}
-use Rattle.hop_rule.proofs.Lists.{none-some, some-is}
-use Rattle.hop_rule.proofs.Moments.{nth-inside, nth-old, nth-some}
 use Rattle.board_api.specs.Lists.{IsFrontOf}
-use Rattle.board_api.specs.Laws.Lanes.{DeliveriesHavePlaces, LanesAreInTurn, LanesAreServedByOne}
-use Rattle.board_api.specs.Laws.Lanes.{ListsAreCounted}
-use Rattle.board_api.specs.OwnSteps.{Has, delivered_by, delivered_in, put_step}
-use Rattle.board_api.specs.Laws.Puts.{CountsAreSums, PutsStand}
-use Rattle.board_api.specs.declared.lists.BoardLists.{BoardLists}
+use Rattle.board_api.specs.OwnSteps.{put_step}
+use Rattle.board_api.specs.Laws.Puts.{PutsStand}
 use Rattle.steer_model.specs.Good.Deliveries.{IsDone}
+use Rattle.run_coupling.proofs.Names.{◌≡◌, ◌⊎◌, inl, inr, ℕ, ◌-◌, ◌<◌, true, List, [], ◌∷◌, ◌++◌}
+use Rattle.run_coupling.proofs.Names.{Option, Some, None, length, map, All, sym, refl, ap, ◌∙◌}
+use Rattle.run_coupling.proofs.Names.{arith, slice_get, cons_option, filter_map, All-from_get_or}
+use Rattle.run_coupling.proofs.Names.{dite, ℕ_discrete, if_same, if_other, LaneDrop, is_in, lane_at}
+use Rattle.run_coupling.proofs.Names.{Delivery, delivery, nth_step, puller, BoardSizes, BoardStep}
+use Rattle.run_coupling.proofs.Names.{Lane, Gate, Weighed, Counted, OutCounted, LaneOut, LaneIn}
+use Rattle.run_coupling.proofs.Names.{Held, Missed, Freed, OutHeld, OutMissed, OutFreed, Given}
+use Rattle.run_coupling.proofs.Names.{Retired, none-some, some-is, nth-inside, nth-old, nth-some}
+use Rattle.run_coupling.proofs.Names.{DeliveriesHavePlaces, LanesAreInTurn, LanesAreServedByOne}
+use Rattle.run_coupling.proofs.Names.{ListsAreCounted, Has, delivered_by, delivered_in}
+use Rattle.run_coupling.proofs.Names.{CountsAreSums, BoardLists, retired_count}
 use Rattle.run_coupling.proofs.Lists.SumLemmas.{each-equal}
 use Rattle.run_coupling.specs.Laws.Ends.{TotalsSuffice, WasDelivered}
-use Rattle.run_coupling.specs.Coupling.Ends.{accepted_count, retired_count, AllRetired}
+use Rattle.run_coupling.specs.Coupling.Ends.{accepted_count, AllRetired}
 
 -- ---- the n-th of some steps is a step
 

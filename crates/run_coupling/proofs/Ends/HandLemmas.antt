@@ -1,12 +1,8 @@
 -- A seat's deliveries are those that it retired, and one more if it is just between the two.
-use Rattle.std.proofs.Common.{◌≡◌, ◌+◌, List, length, sym, refl, ap, ◌∙◌, arith}
-use Rattle.linearization.specs.Orders.{StepBy, steps_of}
+use Rattle.linearization.specs.Orders.{steps_of}
 use Rattle.hop_rule.specs.Boards.{IsLawful, lanes_of, retired}
 use Rattle.hop_rule.specs.Lanes.{Phase, gave, has_pulled, idle, phase}
 use Rattle.hop_rule.specs.Owns.{own_of}
-use Rattle.hop_rule.specs.Sizes.{FitSizes, puller}
-use Rattle.hop_rule.specs.declared.sizes.BoardSizes.{BoardSizes}
-use Rattle.hop_rule.specs.declared.step.BoardStep.{BoardStep}
 use Rattle.hop_rule.proofs.Boards.{parts}
 use Rattle.hop_rule.proofs.Deliveries.{facts, gone}
 use Rattle.hop_rule.proofs.Owns.{lanes_own}
@@ -16,7 +12,8 @@ use Rattle.board_api.proofs.Endings.{at_closings}
 use Rattle.board_api.proofs.Owners.{given_own, retired_own, retires}
 use Rattle.run_coupling.specs.Laws.EmptyHands.{DeliveriesAreCounted, EmptyHandsRetired, hand_for}
 use Rattle.run_coupling.specs.Laws.EmptyHands.{unretired}
-use Rattle.run_coupling.specs.Coupling.Ends.{retired_count}
+use Rattle.run_coupling.proofs.Names.{◌≡◌, ◌+◌, List, length, sym, refl, ap, ◌∙◌, arith, StepBy}
+use Rattle.run_coupling.proofs.Names.{FitSizes, puller, BoardSizes, BoardStep, retired_count}
 
 module _ (about : BoardSizes) where
   gone-is : (o : Phase) → gone about o ≡ unretired o

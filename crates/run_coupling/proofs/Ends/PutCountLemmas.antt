@@ -1,31 +1,21 @@
 -- Not more packets were accepted or dropped than choices were made.
-use Rattle.std.proofs.Common.{◌≡◌, ◌≢◌, inl, inr, ℕ, zero, suc, ◌+◌, ◌<◌, ◌≤◌}
-use Rattle.std.proofs.Common.{List, [], ◌∷◌, ◌++◌, Some, None, length, All, sym, refl, ap}
-use Rattle.std.proofs.Common.{◌∙◌, arith}
-use Rattle.std.specs.List.{cons_option}
-use Rattle.std.proofs.lemmas.Bool.{cases_eq}
-use Rattle.std.proofs.lemmas.List.Elements.{All-cons, All-head, All-nil, All-tail}
 use Rattle.std.proofs.lemmas.List.Elements.{filter_map-append}
-use Rattle.linearization.specs.Orders.{StepBy, steps_of}
-use Rattle.linearization.proofs.ListLemmas.{if_same, if_other}
-use Rattle.steer_base.specs.declared.choice.Chosen.{Chosen}
+use Rattle.linearization.specs.Orders.{steps_of}
 use Rattle.steer_base.specs.declared.put.Put.TheVariants.{At, Dropped}
-use Rattle.history.specs.Lists.{list_at}
-use Rattle.hop_rule.specs.Events.{sum_below}
 use Rattle.hop_rule.specs.Owns.{put_in, puts_of}
-use Rattle.hop_rule.specs.declared.sizes.BoardSizes.{BoardSizes}
-use Rattle.hop_rule.specs.declared.step.BoardStep.{BoardStep}
-use Rattle.hop_rule.specs.declared.step.BoardStep.TheVariants.{Counted, Gate, Lane, LaneIn, LaneOut}
-use Rattle.hop_rule.specs.declared.step.BoardStep.TheVariants.{OutCounted, Weighed}
 use Rattle.hop_rule.specs.declared.step.Change.TheVariants.{Nothing, Offered, Pulled}
-use Rattle.hop_rule.specs.declared.step.GateStep.TheVariants.{Entered}
-use Rattle.hop_rule.specs.declared.step.LaneStep.TheVariants.{Freed, Given, Held, Missed, OutFreed}
-use Rattle.hop_rule.specs.declared.step.LaneStep.TheVariants.{OutHeld, OutMissed, Retired}
 use Rattle.board_api.specs.OwnSteps.{accepted_by, dropped_by}
-use Rattle.hop_delivery.specs.Orders.Runs.{Execution, turns_of}
-use Rattle.hop_delivery.specs.Orders.Turns.{Explained, Turn, turn_put, visit_with}
+use Rattle.hop_delivery.specs.Orders.Turns.{Explained, turn_put, visit_with}
 use Rattle.run_coupling.specs.Laws.OneCount.{ChoicesAreOfTurns, choice_count, dropped_count}
 use Rattle.run_coupling.specs.Coupling.Ends.{accepted_count}
+use Rattle.run_coupling.proofs.Names.{◌≡◌, ◌≢◌, inl, inr, ℕ, zero, suc, ◌+◌, ◌<◌, ◌≤◌, List, []}
+use Rattle.run_coupling.proofs.Names.{◌∷◌, ◌++◌, Some, None, length, All, sym, refl, ap, ◌∙◌, arith}
+use Rattle.run_coupling.proofs.Names.{cons_option, cases_eq, All-cons, All-head, All-nil, All-tail}
+use Rattle.run_coupling.proofs.Names.{StepBy, if_same, if_other, Chosen, list_at, sum_below}
+use Rattle.run_coupling.proofs.Names.{BoardSizes, BoardStep, Counted, Gate, Lane, LaneIn, LaneOut}
+use Rattle.run_coupling.proofs.Names.{OutCounted, Weighed, Entered, Freed, Given, Held, Missed}
+use Rattle.run_coupling.proofs.Names.{OutFreed, OutHeld, OutMissed, Retired, Execution, turns_of}
+use Rattle.run_coupling.proofs.Names.{Turn}
 use Rattle.run_coupling.proofs.Lists.SumLemmas.{sum-le, sum-plus, sum-swap}
 use Rattle.run_coupling.proofs.Runs.TurnListLemmas.{turns-counted}
 

@@ -1,34 +1,23 @@
 -- The deliveries of all seats, counted by out lane and by lane, and so the replies by totals.
-use Rattle.std.proofs.Common.{◌≡◌, ◌≢◌, ℕ, zero, suc, ◌-◌, ◌%◌, ◌<◌, ◌≤◌, List, [], ◌∷◌}
-use Rattle.std.proofs.Common.{Some, None, length, map, All, sym, refl, ap, ◌∙◌, arith}
-use Rattle.std.proofs.Common.{length-append}
+use Rattle.std.proofs.Common.{◌%◌}
 use Rattle.std.specs.Prelude.{max}
-use Rattle.std.specs.List.{cons_option}
 use Rattle.std.proofs.Math.Nat.{mod-lt}
-use Rattle.std.proofs.lemmas.List.{length-map}
-use Rattle.std.proofs.lemmas.List.Elements.{All-cons, All-head, All-nil, All-tail}
-use Rattle.linearization.proofs.ListLemmas.{if_same, if_other}
-use Rattle.history.specs.Lists.{lane_at, list_at}
 use Rattle.history.specs.declared.sent.Sent.{Sent}
-use Rattle.hop_rule.specs.Deliveries.{Delivery, delivery}
-use Rattle.hop_rule.specs.Events.{sum_below}
-use Rattle.hop_rule.specs.Moments.{nth_step}
-use Rattle.hop_rule.specs.Sizes.{FitSizes, puller}
-use Rattle.hop_rule.specs.declared.sizes.BoardSizes.{BoardSizes}
-use Rattle.hop_rule.specs.declared.step.BoardStep.{BoardStep}
-use Rattle.hop_rule.specs.declared.step.BoardStep.TheVariants.{Counted, Gate, Lane, LaneIn, LaneOut}
-use Rattle.hop_rule.specs.declared.step.BoardStep.TheVariants.{OutCounted, Weighed}
-use Rattle.hop_rule.specs.declared.step.LaneStep.TheVariants.{Freed, Given, Held, Missed, OutFreed}
-use Rattle.hop_rule.specs.declared.step.LaneStep.TheVariants.{OutHeld, OutMissed, Retired}
 use Rattle.hop_rule.proofs.Gates.{sum_one, sum_same}
-use Rattle.hop_rule.proofs.Moments.{nth-inside, nth-last, nth-old}
-use Rattle.board_api.specs.Laws.Lanes.{DeliveriesHavePlaces, LanesAreInTurn, LanesAreServedByOne}
 use Rattle.board_api.specs.Laws.Lanes.{OutsAreSums}
-use Rattle.board_api.specs.Laws.Puts.{CountsAreSums}
-use Rattle.board_api.specs.OwnSteps.{Has, delivered_by, delivered_in, given_to}
-use Rattle.board_api.specs.declared.lists.BoardLists.{BoardLists}
+use Rattle.board_api.specs.OwnSteps.{given_to}
 use Rattle.run_coupling.specs.Laws.Ends.{RepliesSuffice}
-use Rattle.run_coupling.specs.Coupling.Ends.{retired_count}
+use Rattle.run_coupling.proofs.Names.{◌≡◌, ◌≢◌, ℕ, zero, suc, ◌-◌, ◌<◌, ◌≤◌, List, [], ◌∷◌, Some}
+use Rattle.run_coupling.proofs.Names.{None, length, map, All, sym, refl, ap, ◌∙◌, arith}
+use Rattle.run_coupling.proofs.Names.{length-append, cons_option, length-map, All-cons, All-head}
+use Rattle.run_coupling.proofs.Names.{All-nil, All-tail, if_same, if_other, lane_at, list_at}
+use Rattle.run_coupling.proofs.Names.{Delivery, delivery, sum_below, nth_step, FitSizes, puller}
+use Rattle.run_coupling.proofs.Names.{BoardSizes, BoardStep, Counted, Gate, Lane, LaneIn, LaneOut}
+use Rattle.run_coupling.proofs.Names.{OutCounted, Weighed, Freed, Given, Held, Missed, OutFreed}
+use Rattle.run_coupling.proofs.Names.{OutHeld, OutMissed, Retired, nth-inside, nth-last, nth-old}
+use Rattle.run_coupling.proofs.Names.{DeliveriesHavePlaces, LanesAreInTurn, LanesAreServedByOne}
+use Rattle.run_coupling.proofs.Names.{CountsAreSums, Has, delivered_by, delivered_in, BoardLists}
+use Rattle.run_coupling.proofs.Names.{retired_count}
 use Rattle.run_coupling.proofs.Ends.EndLemmas.{delivered-step, nth-filter}
 use Rattle.run_coupling.proofs.Lists.SumLemmas.{each-equal, sum-swap}
 

@@ -1,22 +1,18 @@
 -- Packets at indices of lists: what is in a list stands at an index, and lists whose packets stand
 -- at one index each are apart.
-use Rattle.std.proofs.Common.{◌≡◌, ◌≢◌, ◌⊎◌, inl, inr, ℕ, zero, suc, ◌+◌, ◌<◌, ◌≤◌, ◌==◌, Bool}
-use Rattle.std.proofs.Common.{true}
-use Rattle.std.proofs.Common.{List, [], ◌∷◌, ◌++◌, Option, Some, None, length, map, take, drop}
-use Rattle.std.proofs.Common.{sym, refl, ap, ◌∙◌, arith}
-use Rattle.std.specs.Prelude.{slice_get, slice_index, if◌then◌else◌}
-use Rattle.std.specs.Option.{option_map}
-use Rattle.std.specs.List.{range_with_len}
-use Rattle.std.proofs.lemmas.Bool.{cases_Bool, cases_eq, eq-eqb, ne_eqb}
+use Rattle.std.specs.Prelude.{if◌then◌else◌}
+use Rattle.std.proofs.lemmas.Bool.{cases_Bool}
 use Rattle.std.proofs.lemmas.Option.{slice_get-get_or}
 use Rattle.steer_base.specs.Orders.{Apart}
-use Rattle.steer_base.specs.declared.choice.Chosen.{Chosen}
-use Rattle.steer_base.specs.declared.put.LaneDrop.{LaneDrop}
-use Rattle.history.specs.Finding.{is_in, is_among, found, Once}
+use Rattle.history.specs.Finding.{is_among, found, Once}
 use Rattle.history.specs.Lines.{choice_in}
-use Rattle.history.specs.Lists.{arrivals_at, list_at}
-use Rattle.history.specs.declared.arrival.Arrival.{Arrival}
+use Rattle.history.specs.Lists.{arrivals_at}
 use Rattle.history.proofs.FindingLemmas.{is_in-here, is_in-past, found-here, found-past}
+use Rattle.run_coupling.proofs.Names.{◌≡◌, ◌≢◌, ◌⊎◌, inl, inr, ℕ, zero, suc, ◌+◌, ◌<◌, ◌≤◌, ◌==◌}
+use Rattle.run_coupling.proofs.Names.{Bool, true, List, [], ◌∷◌, ◌++◌, Option, Some, None, length}
+use Rattle.run_coupling.proofs.Names.{map, take, drop, sym, refl, ap, ◌∙◌, arith, slice_get}
+use Rattle.run_coupling.proofs.Names.{slice_index, option_map, range_with_len, cases_eq, eq-eqb}
+use Rattle.run_coupling.proofs.Names.{ne_eqb, Chosen, LaneDrop, is_in, list_at, Arrival}
 
 -- ---- an index
 

@@ -1,9 +1,7 @@
 -- Sums of counts: where none of some numbers is above its bound and the sums are equal, each is its
 -- bound.
-use Rattle.std.proofs.Common.{◌≡◌, ℕ, suc, zero, ◌+◌, ◌<◌, ◌≤◌, sym, refl, ap, ◌∙◌, subst, arith}
-use Rattle.std.proofs.Common.{inl, inr}
-use Rattle.std.proofs.lemmas.Bool.{cases_eq}
-use Rattle.hop_rule.specs.Events.{sum_below}
+use Rattle.run_coupling.proofs.Names.{◌≡◌, ℕ, suc, zero, ◌+◌, ◌<◌, ◌≤◌, sym, refl, ap, ◌∙◌, subst}
+use Rattle.run_coupling.proofs.Names.{arith, inl, inr, cases_eq, sum_below}
 
 pub sum-le : (f g : ℕ → ℕ) (n : ℕ) → ((k : ℕ) → k < n → f k ≤ g k)
     → sum_below f n ≤ sum_below g n

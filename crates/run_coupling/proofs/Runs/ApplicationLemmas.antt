@@ -1,45 +1,28 @@
 -- What the applications keep gives turns of all choices for replies, by the rule.
-use Rattle.std.proofs.Common.{◌≡◌, ◌≢◌, ◌⊎◌, inl, inr, ℕ, zero, suc, ◌+◌, ◌*◌, ◌/◌, ◌^◌, ◌<◌, ◌≤◌}
-use Rattle.std.proofs.Common.{◌&&◌, Bool}
-use Rattle.std.proofs.Common.{true, false, List, [], ◌∷◌, ◌++◌, Option, Some, None, length, map}
-use Rattle.std.proofs.Common.{All, sym}
-use Rattle.std.proofs.Common.{refl, ap, ◌∙◌, subst, arith}
-use Rattle.std.specs.Prelude.{nat_lt, slice_get, slice_index, slice_index_or}
-use Rattle.std.proofs.lemmas.Bool.{ltb-true}
-use Rattle.std.proofs.lemmas.List.Elements.{All-cons, All-from_get_or, All-head, All-nil, All-tail}
 use Rattle.std.proofs.lemmas.Option.{slice_get-get_or}
 use Rattle.steer_base.specs.Orders.{IsPrefix}
-use Rattle.steer_base.specs.declared.choice.Chosen.{Chosen}
-use Rattle.steer_base.specs.declared.command.Command.{Command}
 use Rattle.steer_base.specs.declared.command.Command.TheVariants as give
-use Rattle.history.specs.Lists.{list_at}
-use Rattle.history.specs.declared.history.History.{History}
 use Rattle.history.specs.declared.sent.Sent.{Sent}
 use Rattle.hop_model.specs.Hop.{nobody}
-use Rattle.hop_rule.specs.Boards.{gate_steps}
-use Rattle.hop_rule.specs.Gates.{opened, own_settings}
-use Rattle.hop_rule.specs.Moments.{nth_step}
-use Rattle.hop_rule.specs.Sizes.{closer}
-use Rattle.hop_rule.specs.declared.sizes.BoardSizes.{BoardSizes}
-use Rattle.hop_rule.specs.declared.step.BoardStep.{BoardStep}
-use Rattle.hop_rule.proofs.Lists.{none-some, some-is}
-use Rattle.board_api.specs.declared.lists.BoardLists.{BoardLists}
-use Rattle.hop_delivery.specs.Closings.FlowLaw.{accepted_left}
-use Rattle.hop_delivery.specs.Orders.Commands.{sent_sets}
-use Rattle.hop_delivery.specs.Orders.Runs.{IsByRule, Steering, Execution, settings_of_visit}
-use Rattle.hop_delivery.specs.Orders.Runs.{turns_of}
+use Rattle.hop_delivery.specs.Orders.Runs.{IsByRule, settings_of_visit}
 use Rattle.hop_delivery.specs.Orders.TransmitSettings.{pick_by, transmit_steering}
-use Rattle.hop_delivery.specs.Orders.Turns.{Turn}
-use Rattle.steer_model.specs.Good.Inputs.{Input, setup_in}
-use Rattle.steer_model.specs.State.Settings.{Settings}
 use Rattle.steer_model.specs.State.Setup.{flow_number_of, packet_hash}
-use Rattle.steer_model.specs.State.Start.{initial_settings}
 use Rattle.run_coupling.specs.Laws.Replies.{RepliesHaveTurns}
 use Rattle.run_coupling.specs.Coupling.Applications.{FitTransmitWords}
-use Rattle.run_coupling.specs.Coupling.Inputs.{AreTransmitWords, NamesTransmitQueues}
 use Rattle.run_coupling.specs.Coupling.Runs.{TransmitCoupling}
-use Rattle.run_coupling.specs.Coupling.Tries.{Try, at_transmit, settings_by, tries_up_to}
-use Rattle.hop_delivery.specs.Closings.PutPlaces.{AreTurnsOf}
+use Rattle.run_coupling.specs.Coupling.Tries.{at_transmit}
+use Rattle.run_coupling.proofs.Names.{◌≡◌, ◌≢◌, ◌⊎◌, inl, inr, ℕ, zero, suc, ◌+◌, ◌*◌, ◌/◌, ◌^◌}
+use Rattle.run_coupling.proofs.Names.{◌<◌, ◌≤◌, ◌&&◌, Bool, true, false, List, [], ◌∷◌, ◌++◌}
+use Rattle.run_coupling.proofs.Names.{Option, Some, None, length, map, All, sym, refl, ap, ◌∙◌}
+use Rattle.run_coupling.proofs.Names.{subst, arith, nat_lt, slice_get, slice_index, slice_index_or}
+use Rattle.run_coupling.proofs.Names.{ltb-true, All-cons, All-from_get_or, All-head, All-nil}
+use Rattle.run_coupling.proofs.Names.{All-tail, Chosen, Command, list_at, History, gate_steps}
+use Rattle.run_coupling.proofs.Names.{opened, own_settings, nth_step, closer, BoardSizes, BoardStep}
+use Rattle.run_coupling.proofs.Names.{none-some, some-is, BoardLists, accepted_left, sent_sets}
+use Rattle.run_coupling.proofs.Names.{Steering, Execution, turns_of, Turn, Input, setup_in}
+use Rattle.run_coupling.proofs.Names.{Settings, initial_settings, AreTransmitWords}
+use Rattle.run_coupling.proofs.Names.{NamesTransmitQueues, Try, settings_by, tries_up_to}
+use Rattle.run_coupling.proofs.Names.{AreTurnsOf}
 use Rattle.run_coupling.proofs.Runs.TurnListLemmas.{ArriveOnce}
 use Rattle.run_coupling.proofs.Lists.PlaceLemmas.{StandOnce, at_index}
 use Rattle.run_coupling.proofs.Runs.FactLemmas.{BoardFacts}

@@ -1,11 +1,8 @@
 -- The words that the threads share, as codes of hint words.
-use Rattle.std.proofs.Common.{◌≡◌, ℕ, ◌-◌, ◌^◌, ◌<◌, ◌≤◌, ◌==◌, Bool, true, false, Option, None}
-use Rattle.std.proofs.Common.{Some, if◌then◌else◌, sym, refl, ap, ◌∙◌, arith}
-use Rattle.std.specs.Prelude.{◌||◌, nat_lt}
+use Rattle.std.specs.Prelude.{◌||◌}
 use Rattle.std.proofs.lemmas.Bool.Decides.{eqb_tells, nat_tests}
 use Rattle.steer_base.specs.declared.filter.Filter.{Filter}
 use Rattle.run_words.specs.Numbers.{hint_number}
-use Rattle.hop_rule.proofs.Lists.{none-some, some-is}
 use Rattle.run_words.specs.Values.{filter_in, filter_word, place_in, place_word}
 use Rattle.run_words.specs.declared.hint_word.HintWord.{HintWord}
 use Rattle.run_words.specs.declared.hint_word.HintWord.TheVariants as word
@@ -13,6 +10,9 @@ use Rattle.run_words.proofs.ValueLemmas.{only_coded, read_back}
 use Rattle.run_words.proofs.WordNumbers.{hint_words_apart}
 use Rattle.run_coupling.specs.Laws.SharedCodes.{AreShared, SharedCodesExist, TellApart, code_of}
 use Rattle.run_coupling.specs.Coupling.Hints.{HintCodes, Says, SaysNoFilter}
+use Rattle.run_coupling.proofs.Names.{◌≡◌, ℕ, ◌-◌, ◌^◌, ◌<◌, ◌≤◌, ◌==◌, Bool, true, false, Option}
+use Rattle.run_coupling.proofs.Names.{None, Some, if◌then◌else◌, sym, refl, ap, ◌∙◌, arith, nat_lt}
+use Rattle.run_coupling.proofs.Names.{none-some, some-is}
 
 abbrev pub shared : HintCodes
 shared = record {

@@ -1,25 +1,16 @@
 -- What holds at each closing of a board, in one record.
 use Rattle.std.specs.Prelude.{ℕ, ◌<◌, List}
-use Rattle.linearization.specs.Orders.{StepBy}
 use Rattle.dev_flow_table.proofs.FoldsLemmas as folds
 use Rattle.hop_rule.specs.Boards.{IsLawful}
 use Rattle.hop_rule.specs.Owns.{own_of}
-use Rattle.hop_rule.specs.Sizes.{FitSizes}
-use Rattle.hop_rule.specs.declared.sizes.BoardSizes.{BoardSizes}
-use Rattle.hop_rule.specs.declared.step.BoardStep.{BoardStep}
-use Rattle.hop_rule.specs.declared.step.BoardStep.TheVariants.{Lane}
-use Rattle.hop_rule.specs.declared.step.LaneStep.TheVariants.{Given}
 use Rattle.hop_rule.proofs.Boards.{step_lawful}
-use Rattle.board_api.specs.OwnSteps.{Has}
 use Rattle.board_api.specs.Closings.Closings.{AtEachClosing}
 use Rattle.board_api.specs.Closings.Finals.{lists_of}
 use Rattle.board_api.specs.Laws.Heads.{HeadsAreBelowTails, HeadsRise, ReadsAreSettings}
 use Rattle.board_api.specs.Laws.Heads.{VisitNumbersRise}
-use Rattle.board_api.specs.Laws.Lanes.{DeliveriesHavePlaces, HoldsFindFronts, LanesAreInTurn}
-use Rattle.board_api.specs.Laws.Lanes.{LanesAreServedByOne, ListsAreCounted, OutsAreSums}
-use Rattle.board_api.specs.Laws.Puts.{AcceptedWerePut, CountsAreSums, DropsHaveCauses, DropsRise}
-use Rattle.board_api.specs.Laws.Puts.{DropsWerePut, PutsStand}
-use Rattle.board_api.specs.declared.lists.BoardLists.{BoardLists}
+use Rattle.board_api.specs.Laws.Lanes.{HoldsFindFronts, OutsAreSums}
+use Rattle.board_api.specs.Laws.Puts.{AcceptedWerePut, DropsHaveCauses, DropsRise, DropsWerePut}
+use Rattle.board_api.specs.Laws.Puts.{PutsStand}
 use Rattle.board_api.proofs.Endings.{at_closings}
 use Rattle.board_api.proofs.OutSums.{lists_are_counted, outs_are_sums}
 use Rattle.board_api.proofs.OwnDrops.{counts_are_sums, drops_have_causes, drops_rise}
@@ -38,6 +29,9 @@ use Rattle.hop_delivery.proofs.Closings.TurnReadLemmas.{turns_know}
 use Rattle.hop_delivery.specs.Closings.PutPlaces.{AnswersArePlaces, PacketsStand}
 use Rattle.hop_delivery.proofs.Closings.PutPlaceLemmas.{answers_are_places, packets_stand}
 use Rattle.run_coupling.specs.Laws.OwnTables.{TablesRule}
+use Rattle.run_coupling.proofs.Names.{StepBy, FitSizes, BoardSizes, BoardStep, Lane, Given, Has}
+use Rattle.run_coupling.proofs.Names.{DeliveriesHavePlaces, LanesAreInTurn, LanesAreServedByOne}
+use Rattle.run_coupling.proofs.Names.{ListsAreCounted, CountsAreSums, BoardLists}
 use Rattle.run_coupling.proofs.Turns.TableEntryLemmas.{tables_are_entries}
 use Rattle.run_coupling.proofs.Turns.TableLemmas.{tables_rule}
 

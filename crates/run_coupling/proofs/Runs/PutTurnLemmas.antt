@@ -1,18 +1,13 @@
 -- The put of a turn, and the turn of an index of a journal.
-use Rattle.std.proofs.Common.{◌≡◌, ℕ, List, Some, sym, ◌∙◌, arith}
-use Rattle.std.specs.Prelude.{slice_get}
 use Rattle.std.proofs.lemmas.Option.{slice_get_within}
 use Rattle.linearization.specs.Orders.{step_by}
-use Rattle.steer_base.specs.declared.choice.Chosen.{Chosen}
-use Rattle.hop_rule.specs.Moments.{moment_of, nth_step}
-use Rattle.hop_rule.specs.declared.step.BoardStep.{BoardStep}
-use Rattle.hop_rule.proofs.Moments.{nth-some}
+use Rattle.hop_rule.specs.Moments.{moment_of}
 use Rattle.hop_rule.proofs.Parts.{at_moment}
-use Rattle.board_api.specs.OwnSteps.{Has, put_step}
-use Rattle.hop_delivery.specs.Orders.Runs.{Execution, turns_of}
-use Rattle.hop_delivery.specs.Orders.Turns.{Turn}
+use Rattle.board_api.specs.OwnSteps.{put_step}
 use Rattle.hop_delivery.proofs.Orders.TurnLemmas.{turns_have_places}
-use Rattle.run_coupling.specs.Coupling.Turns.{KeepsTurns}
+use Rattle.run_coupling.proofs.Names.{◌≡◌, ℕ, List, Some, sym, ◌∙◌, arith, slice_get, Chosen}
+use Rattle.run_coupling.proofs.Names.{nth_step, BoardStep, nth-some, Has, Execution, turns_of, Turn}
+use Rattle.run_coupling.proofs.Names.{KeepsTurns}
 use Rattle.run_coupling.proofs.Runs.TurnListLemmas.{turn-chosen, turns-counted}
 use Rattle.run_coupling.proofs.Turns.TableEntryLemmas.{nth-moment}
 

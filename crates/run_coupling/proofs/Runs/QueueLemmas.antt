@@ -1,69 +1,44 @@
 -- What the receive queues keep gives the premises of delivery in order, and turns of all choices.
-use Rattle.std.proofs.Common.{◌≡◌, inl, inr, ℕ, ◌+◌, ◌-◌, ◌*◌, ◌/◌, ◌%◌, ◌^◌, ◌<◌, ◌≤◌}
-use Rattle.std.proofs.Common.{◌&&◌, Bool, true, false, List, [], ◌∷◌, ◌++◌, Some, length}
-use Rattle.std.proofs.Common.{All, sym, refl, ap, ◌∙◌, subst, arith}
-use Rattle.std.specs.Prelude.{nat_lt, slice_get, slice_index}
-use Rattle.std.specs.List.{range_with_len}
+use Rattle.std.proofs.Common.{◌%◌}
 use Rattle.std.proofs.Math.ListN.{get_or-eq_default}
-use Rattle.std.proofs.lemmas.Bool.{cases_lt, ltb-true}
-use Rattle.std.proofs.lemmas.List.{length-map}
-use Rattle.std.proofs.lemmas.List.Elements.{All-cons, All-head, All-nil, All-tail}
+use Rattle.std.proofs.lemmas.Bool.{cases_lt}
 use Rattle.std.proofs.lemmas.List.FromFn.{length-range_with_len}
-use Rattle.steer_base.specs.Counters.{rounded_up}
-use Rattle.steer_base.specs.Sets.{has}
-use Rattle.steer_base.specs.declared.command.Command.{Command}
 use Rattle.steer_base.specs.declared.command.Command.TheVariants as give
-use Rattle.steer_base.specs.declared.cpu_mask.CpuMask.{CpuMask}
 use Rattle.steer_base.specs.declared.limits.TheConstants.{MAX_FLOW_COUNT, MAX_SOCKET_SIZE}
-use Rattle.history.specs.declared.arrival.Arrival.{Arrival}
-use Rattle.history.specs.declared.history.History.{History}
-use Rattle.hop_rule.specs.Boards.{gate_steps}
-use Rattle.hop_rule.specs.Gates.{opened, own_settings}
-use Rattle.hop_rule.specs.Moments.{nth_step}
-use Rattle.hop_rule.specs.Sizes.{closer}
-use Rattle.hop_rule.specs.declared.sizes.BoardSizes.{BoardSizes}
-use Rattle.hop_rule.specs.declared.step.BoardStep.{BoardStep}
-use Rattle.hop_rule.specs.declared.step.BoardStep.TheVariants.{Counted, Gate, Lane, LaneIn}
-use Rattle.hop_rule.specs.declared.step.BoardStep.TheVariants.{LaneOut, OutCounted, Weighed}
-use Rattle.hop_rule.specs.declared.step.LaneStep.TheVariants.{Freed, Given, Held, Missed}
-use Rattle.hop_rule.specs.declared.step.LaneStep.TheVariants.{OutFreed, OutHeld, OutMissed}
-use Rattle.hop_rule.specs.declared.step.LaneStep.TheVariants.{Retired}
-use Rattle.board_api.specs.OwnSteps.{Has}
 use Rattle.steer_base.specs.Apps.{app_of}
 use Rattle.steer_model.specs.State.Setup.{app_for}
+use Rattle.run_coupling.proofs.Names.{◌≡◌, inl, inr, ℕ, ◌+◌, ◌-◌, ◌*◌, ◌/◌, ◌^◌, ◌<◌, ◌≤◌, ◌&&◌}
+use Rattle.run_coupling.proofs.Names.{Bool, true, false, List, [], ◌∷◌, ◌++◌, Some, length, All}
+use Rattle.run_coupling.proofs.Names.{sym, refl, ap, ◌∙◌, subst, arith, nat_lt, slice_get}
+use Rattle.run_coupling.proofs.Names.{slice_index, range_with_len, ltb-true, length-map, All-cons}
+use Rattle.run_coupling.proofs.Names.{All-head, All-nil, All-tail, rounded_up, has, Command}
+use Rattle.run_coupling.proofs.Names.{CpuMask, Arrival, History, gate_steps, opened, own_settings}
+use Rattle.run_coupling.proofs.Names.{nth_step, closer, BoardSizes, BoardStep, Counted, Gate, Lane}
+use Rattle.run_coupling.proofs.Names.{LaneIn, LaneOut, OutCounted, Weighed, Freed, Given, Held}
+use Rattle.run_coupling.proofs.Names.{Missed, OutFreed, OutHeld, OutMissed, Retired, Has}
+use Rattle.run_coupling.proofs.Names.{nth-inside, BoardLists, accepted_left, received_sets, Queues}
+use Rattle.run_coupling.proofs.Names.{queues, Steering, Execution, turns_of, Turn, QueuePlan, Input}
+use Rattle.run_coupling.proofs.Names.{setup_in, Settings, initial_settings, AreReceiveWords}
+use Rattle.run_coupling.proofs.Names.{NamesReceiveQueues, Try, settings_by, tries_up_to, AreTurnsOf}
 use Rattle.run_coupling.proofs.Ends.TotalLemmas.{all-by-number}
 use Rattle.run_coupling.proofs.Runs.StandLemmas as stand
-use Rattle.hop_rule.proofs.Moments.{nth-inside}
-use Rattle.board_api.specs.declared.lists.BoardLists.{BoardLists}
-use Rattle.hop_delivery.specs.Closings.FlowLaw.{accepted_left}
 use Rattle.hop_delivery.specs.Closings.TurnReads.{Knows}
-use Rattle.hop_delivery.specs.Orders.Commands.{NamesCpu, received_sets}
+use Rattle.hop_delivery.specs.Orders.Commands.{NamesCpu}
 use Rattle.hop_delivery.specs.Orders.Premises.{AllFindEmpty, GoesRight, MeetsPremises}
-use Rattle.hop_delivery.specs.Orders.ReceiveSettings.{Queues, flows_word, mask, mask_word, online}
-use Rattle.hop_delivery.specs.Orders.ReceiveSettings.{online_word, queues, receive_steering}
-use Rattle.hop_delivery.specs.Orders.ReceiveSettings.{socket_word}
-use Rattle.hop_delivery.specs.Orders.Runs.{IsByRule, Steering, Execution}
-use Rattle.hop_delivery.specs.Orders.Runs.{turns_of}
-use Rattle.hop_delivery.specs.Orders.Turns.{Turn}
+use Rattle.hop_delivery.specs.Orders.ReceiveSettings.{flows_word, mask, mask_word, online}
+use Rattle.hop_delivery.specs.Orders.ReceiveSettings.{online_word, receive_steering, socket_word}
+use Rattle.hop_delivery.specs.Orders.Runs.{IsByRule}
 use Rattle.hop_delivery.proofs.Orders.ReceiveSettingLemmas.{goals_are_online}
-use Rattle.plan_reader.specs.declared.plan.QueuePlan.{QueuePlan}
-use Rattle.steer_model.specs.Good.Inputs.{Input, setup_in}
-use Rattle.steer_model.specs.State.Settings.{Settings}
-use Rattle.steer_model.specs.State.Start.{initial_settings}
 use Rattle.run_coupling.specs.Laws.Choices.{ChoicesHaveTurns}
 use Rattle.run_coupling.specs.Coupling.Answers.{AllAnswered}
 use Rattle.run_coupling.specs.Coupling.Boards.{IsReceiveBoard}
 use Rattle.run_coupling.specs.Coupling.Deliveries.{AllDeliverTo}
 use Rattle.run_coupling.specs.Coupling.Ends.{AllArrived}
 use Rattle.run_coupling.specs.Coupling.EmptiedLanes.{AllFindLanes}
-use Rattle.run_coupling.specs.Coupling.Inputs.{AreReceiveWords, FlowsHaveOneHash}
-use Rattle.run_coupling.specs.Coupling.Inputs.{NamesReceiveQueues}
-use Rattle.run_coupling.specs.Coupling.Inputs.{receive_queues}
+use Rattle.run_coupling.specs.Coupling.Inputs.{FlowsHaveOneHash, receive_queues}
 use Rattle.run_coupling.specs.Coupling.Queues.{FitReceiveWords, KeepsQueues}
-use Rattle.run_coupling.specs.Coupling.Tries.{KeepsReceiveTries, Try, at_receive, settings_by}
+use Rattle.run_coupling.specs.Coupling.Tries.{KeepsReceiveTries, at_receive}
 use Rattle.run_coupling.proofs.Tries.ResizeLemmas.{resizes_by}
-use Rattle.run_coupling.specs.Coupling.Tries.{tries_up_to}
-use Rattle.hop_delivery.specs.Closings.PutPlaces.{AreTurnsOf}
 use Rattle.run_coupling.proofs.Runs.TurnListLemmas.{ArriveOnce}
 use Rattle.run_coupling.proofs.Lists.PlaceLemmas.{AreNumbered, arrived_once, arrived_within}
 use Rattle.run_coupling.proofs.Lists.PlaceLemmas.{at_index}

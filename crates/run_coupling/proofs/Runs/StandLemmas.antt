@@ -3,38 +3,23 @@
 -- choice of its lane; each delivered one at one place of an out lane, and among the packets that
 -- its
 -- lane accepted and delivered.
-use Rattle.std.proofs.Common.{◌≡◌, inl, inr, ℕ, suc, ◌<◌}
-use Rattle.std.proofs.Common.{true, List, [], ◌∷◌, ◌++◌, Option, Some, None, length, sym}
-use Rattle.std.proofs.Common.{refl, ap, ◌∙◌, subst, arith}
-use Rattle.std.specs.Prelude.{slice_get}
-use Rattle.std.specs.List.{cons_option, filter_map}
-use Rattle.std.specs.Option.{option_map}
-use Rattle.std.proofs.lemmas.Bool.{cases_eq}
 use Rattle.std.proofs.lemmas.Option.{slice_get-map}
-use Rattle.linearization.proofs.ListLemmas.{if_same, if_other}
-use Rattle.steer_base.specs.declared.choice.Chosen.{Chosen}
-use Rattle.history.specs.Finding.{is_among, is_in}
+use Rattle.history.specs.Finding.{is_among}
 use Rattle.history.specs.Lines.{choice_in}
-use Rattle.history.specs.Lists.{accepted_lists, drop_ids, dropped_lists, lane_at, list_at}
+use Rattle.history.specs.Lists.{accepted_lists, drop_ids, dropped_lists}
 use Rattle.history.specs.Regular.{HasChoice}
 use Rattle.history.proofs.BoundLemmas.{list-accepted, list-dropped}
-use Rattle.hop_rule.specs.Deliveries.{Delivery, delivery}
-use Rattle.hop_rule.specs.Moments.{nth_step}
-use Rattle.hop_rule.specs.Sizes.{puller}
-use Rattle.hop_rule.specs.declared.sizes.BoardSizes.{BoardSizes}
-use Rattle.hop_rule.specs.declared.step.BoardStep.{BoardStep}
-use Rattle.hop_rule.specs.declared.step.BoardStep.TheVariants.{Lane}
-use Rattle.hop_rule.specs.declared.step.LaneStep.TheVariants.{Given}
-use Rattle.hop_rule.proofs.Lists.{some-is}
-use Rattle.hop_rule.proofs.Moments.{nth-inside, nth-last, nth-old}
-use Rattle.board_api.specs.OwnSteps.{Has, delivered_by, delivered_in}
-use Rattle.board_api.specs.declared.lists.BoardLists.{BoardLists}
-use Rattle.hop_delivery.specs.Closings.FlowLaw.{accepted_left}
-use Rattle.hop_delivery.specs.Orders.Runs.{Execution}
-use Rattle.hop_delivery.specs.Closings.PutPlaces.{AreTurnsOf, HasTurn, PacketsStandOnce}
+use Rattle.hop_delivery.specs.Closings.PutPlaces.{HasTurn, PacketsStandOnce}
 use Rattle.hop_delivery.proofs.Orders.AccountedLemmas.{nth-all}
 use Rattle.run_coupling.specs.Coupling.Deliveries.{AllDeliverTo}
-use Rattle.run_coupling.specs.Coupling.Turns.{KeepsTurns}
+use Rattle.run_coupling.proofs.Names.{◌≡◌, inl, inr, ℕ, suc, ◌<◌, true, List, [], ◌∷◌, ◌++◌, Option}
+use Rattle.run_coupling.proofs.Names.{Some, None, length, sym, refl, ap, ◌∙◌, subst, arith}
+use Rattle.run_coupling.proofs.Names.{slice_get, cons_option, filter_map, option_map, cases_eq}
+use Rattle.run_coupling.proofs.Names.{if_same, if_other, Chosen, is_in, lane_at, list_at, Delivery}
+use Rattle.run_coupling.proofs.Names.{delivery, nth_step, puller, BoardSizes, BoardStep, Lane}
+use Rattle.run_coupling.proofs.Names.{Given, some-is, nth-inside, nth-last, nth-old, Has}
+use Rattle.run_coupling.proofs.Names.{delivered_by, delivered_in, BoardLists, accepted_left}
+use Rattle.run_coupling.proofs.Names.{Execution, AreTurnsOf, KeepsTurns}
 use Rattle.run_coupling.proofs.Lists.PlaceLemmas.{StandOnce, among_at, at_in, choice_at, drop_at}
 use Rattle.run_coupling.proofs.Lists.PlaceLemmas.{in_at, joined_stand}
 use Rattle.run_coupling.proofs.Runs.FactLemmas.{BoardFacts}

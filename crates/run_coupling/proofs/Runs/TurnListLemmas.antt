@@ -1,20 +1,10 @@
 -- A producer's journal of choices, by the numbers of its turns.
-use Rattle.std.proofs.Common.{◌≡◌, ◌≢◌, inl, inr, ℕ, zero, suc, ◌<◌}
-use Rattle.std.proofs.Common.{List, [], ◌∷◌, ◌++◌, Some, length, sym, refl, ap, ◌∙◌}
-use Rattle.std.proofs.Common.{arith, length-append}
-use Rattle.std.specs.Prelude.{slice_get, slice_index}
-use Rattle.std.specs.Option.{option_map}
-use Rattle.std.proofs.lemmas.Bool.{cases_eq}
-use Rattle.std.proofs.lemmas.List.{length-map}
 use Rattle.std.proofs.lemmas.Option.{slice_get-map}
-use Rattle.linearization.proofs.ListLemmas.{if_same, if_other}
-use Rattle.steer_base.specs.declared.choice.Chosen.{Chosen}
-use Rattle.hop_rule.specs.Moments.{nth_step}
-use Rattle.hop_delivery.specs.Orders.Runs.{Execution, turns_of}
-use Rattle.hop_delivery.specs.Orders.Turns.{Turn}
-use Rattle.run_words.specs.Lists.{oldest_first}
-use Rattle.run_coupling.specs.Coupling.Turns.{KeepsTurns}
-use Rattle.hop_rule.specs.declared.step.BoardStep.{BoardStep}
+use Rattle.run_coupling.proofs.Names.{◌≡◌, ◌≢◌, inl, inr, ℕ, zero, suc, ◌<◌, List, [], ◌∷◌, ◌++◌}
+use Rattle.run_coupling.proofs.Names.{Some, length, sym, refl, ap, ◌∙◌, arith, length-append}
+use Rattle.run_coupling.proofs.Names.{slice_get, slice_index, option_map, cases_eq, length-map}
+use Rattle.run_coupling.proofs.Names.{if_same, if_other, Chosen, nth_step, Execution, turns_of}
+use Rattle.run_coupling.proofs.Names.{Turn, oldest_first, KeepsTurns, BoardStep}
 
 pub length-oldest : {A : Type 0} (xs : List A) → length (oldest_first xs) ≡ length xs
 length-oldest [] = refl

@@ -1,13 +1,10 @@
 -- The forms of a try from what its calls add.
-use Rattle.std.proofs.Common.{List, [], ◌∷◌, ◌++◌, refl, ap, ◌∙◌}
-use Rattle.std.specs.List.{filter_map}
-use Rattle.hop_rule.specs.declared.step.BoardStep.{BoardStep}
-use Rattle.hop_rule.specs.declared.step.BoardStep.TheVariants.{Gate}
-use Rattle.hop_rule.specs.declared.step.GateStep.TheVariants.{Opened, Set, Shut}
 use Rattle.board_api.specs.Calls.Results.{looking}
+use Rattle.run_coupling.proofs.Names.{List, [], ◌∷◌, ◌++◌, refl, ap, ◌∙◌, filter_map, BoardStep}
+use Rattle.run_coupling.proofs.Names.{Gate, Opened, Set, Shut, sets_and_openings}
 use Rattle.run_coupling.proofs.Tries.EmptiedLemmas.{gates-looking, looking-split, no-sets-looking}
 use Rattle.run_coupling.specs.Laws.Calls.{BusyCallsLook, DoneCallsSet, InsideCallsNone}
-use Rattle.run_coupling.specs.Coupling.Tries.{set_or_opening, sets_and_openings}
+use Rattle.run_coupling.specs.Coupling.Tries.{set_or_opening}
 
 pub done_calls : DoneCallsSet
 done_calls about homes cpus txs c m steps f =

@@ -1,34 +1,27 @@
 -- Lanes that the controller found empty before it set.
-use Rattle.std.proofs.Common.{◌≡◌, inl, inr, ℕ, zero, suc, ◌+◌, ◌<◌, Bool, true, false, cond, List}
-use Rattle.std.proofs.Common.{[], ◌∷◌, ◌++◌, length, map, All, if◌then◌else◌, sym, refl, ap, ◌∙◌}
-use Rattle.std.proofs.Common.{subst, arith, append_assoc}
-use Rattle.std.proofs.lemmas.List.Elements.{All-head, All-tail}
-use mathlib.Core.Logic.{dite}
-use native.Mathlib.Decide.{ℕ_discrete}
+use Rattle.std.proofs.Common.{cond, append_assoc}
 use Rattle.steer_base.specs.Commands.{is_affected}
-use Rattle.steer_base.specs.Sets.{has, those_below}
-use Rattle.steer_base.specs.declared.command.Command.{Command}
+use Rattle.steer_base.specs.Sets.{those_below}
 use Rattle.steer_base.proofs.SetsLemmas.{those_below-more}
-use Rattle.hop_rule.specs.Boards.{gate_steps}
-use Rattle.hop_rule.specs.Gates.{openings, own_settings}
-use Rattle.hop_rule.specs.declared.sizes.BoardSizes.{BoardSizes}
-use Rattle.hop_rule.specs.declared.step.BoardStep.{BoardStep}
-use Rattle.hop_rule.specs.declared.step.BoardStep.TheVariants.{Lane, Gate, Weighed, Counted}
-use Rattle.hop_rule.specs.declared.step.BoardStep.TheVariants.{OutCounted, LaneOut, LaneIn}
-use Rattle.hop_rule.specs.declared.step.GateStep.TheVariants.{Entered, Turned, Left, Shut, NotShut}
-use Rattle.hop_rule.specs.declared.step.GateStep.TheVariants.{Opened, Set, Read}
+use Rattle.hop_rule.specs.Gates.{openings}
+use Rattle.hop_rule.specs.declared.step.GateStep.TheVariants.{Turned, Left, NotShut, Read}
 use Rattle.board_api.specs.Calls.Results.{IsEmpty, Looked, looking}
-use Rattle.hop_delivery.specs.Orders.Commands.{AreAffected, NamesCpu, SettingChange}
-use Rattle.hop_delivery.specs.Orders.Commands.{received_sets}
+use Rattle.hop_delivery.specs.Orders.Commands.{AreAffected, NamesCpu}
 use Rattle.hop_delivery.specs.Orders.Premises.{AllFindEmpty, FindsEmpty, WasFoundEmpty}
-use Rattle.hop_delivery.specs.Orders.ReceiveSettings.{Queues, receive_steering}
-use Rattle.hop_delivery.specs.Orders.Runs.{Steering}
+use Rattle.hop_delivery.specs.Orders.ReceiveSettings.{receive_steering}
 use Rattle.hop_delivery.proofs.Orders.CommandLemmas.{received_commands_empty}
 use Rattle.run_coupling.specs.Laws.EmptiedLanes.{TriesFindEmpty}
 use Rattle.run_coupling.specs.Coupling.EmptiedLanes.{AllFindLanes, FindsAllEmpty, FindsLanes}
 use Rattle.run_coupling.specs.Coupling.EmptiedLanes.{NoSets}
 use Rattle.run_coupling.specs.Coupling.EmptiedLanes.{is_set}
-use Rattle.run_coupling.specs.Coupling.Tries.{Try, steps_of_tries, words_after}
+use Rattle.run_coupling.proofs.Names.{◌≡◌, inl, inr, ℕ, zero, suc, ◌+◌, ◌<◌, Bool, true, false}
+use Rattle.run_coupling.proofs.Names.{List, [], ◌∷◌, ◌++◌, length, map, All, if◌then◌else◌, sym}
+use Rattle.run_coupling.proofs.Names.{refl, ap, ◌∙◌, subst, arith, All-head, All-tail, dite}
+use Rattle.run_coupling.proofs.Names.{ℕ_discrete, has, Command, gate_steps, own_settings}
+use Rattle.run_coupling.proofs.Names.{BoardSizes, BoardStep, Lane, Gate, Weighed, Counted}
+use Rattle.run_coupling.proofs.Names.{OutCounted, LaneOut, LaneIn, Entered, Shut, Opened, Set}
+use Rattle.run_coupling.proofs.Names.{SettingChange, received_sets, Queues, Steering, Try}
+use Rattle.run_coupling.proofs.Names.{steps_of_tries, words_after}
 
 -- ---- looks at lanes
 

@@ -1,19 +1,14 @@
 -- The commands of all tries are commands of the plan, and so within its ranges.
-use Rattle.std.proofs.Common.{◌≡◌, ℕ, true, List, [], ◌∷◌, ◌++◌, map}
-use Rattle.std.proofs.Common.{All, sym, subst}
-use Rattle.std.specs.List.{cons_option, filter_map}
-use Rattle.std.proofs.lemmas.List.Elements.{All-cons, All-head, All-nil, All-tail}
-use Rattle.steer_base.specs.declared.command.Command.{Command}
 use Rattle.steer_base.specs.declared.step.Step.{Step}
 use Rattle.steer_base.specs.declared.step.Step.TheVariants as step
-use Rattle.history.specs.declared.commanded.Commanded.{Commanded}
 use Rattle.plan_reader.specs.Plans.{sizes_of}
 use Rattle.plan_reader.specs.Ranges.{command_in, commands_of, step_is_within}
 use Rattle.plan_reader.specs.Ranges.{steps_in_list}
 use Rattle.plan_reader.specs.declared.plan.Plan.{Plan}
 use Rattle.steer_model.specs.Good.Commands.{AreGiven}
-use Rattle.run_coupling.specs.Coupling.Tries.{Try}
-use Rattle.run_words.specs.Lists.{oldest_first}
+use Rattle.run_coupling.proofs.Names.{◌≡◌, ℕ, true, List, [], ◌∷◌, ◌++◌, map, All, sym, subst}
+use Rattle.run_coupling.proofs.Names.{cons_option, filter_map, All-cons, All-head, All-nil}
+use Rattle.run_coupling.proofs.Names.{All-tail, Command, Commanded, Try, oldest_first}
 use Rattle.run_coupling.proofs.Tries.RangeLemmas.{IsWithinPlan}
 
 -- ---- parts of lists

@@ -1,31 +1,23 @@
 -- The homes of all queues stay online.
-use Rattle.std.proofs.Common.{◌≡◌, ◌≢◌, ℕ, zero, suc, ◌<◌, ◌≤◌, ◌==◌, ◌&&◌, ◌||◌, not}
-use Rattle.std.proofs.Common.{Bool, true, false, List, [], ◌∷◌, Option, Some, None, length, map}
-use Rattle.std.proofs.Common.{All}
-use Rattle.std.proofs.Common.{if◌then◌else◌, sym, refl, ap, ◌∙◌, arith}
-use Rattle.std.specs.Prelude.{nat_lt, position, slice_index}
+use Rattle.std.proofs.Common.{◌||◌, not}
+use Rattle.std.specs.Prelude.{position}
 use Rattle.std.specs.List.{position_or_len}
-use Rattle.std.specs.Option.{option_map}
-use Rattle.std.proofs.lemmas.Bool.{eq-eqb, ne_eqb, lt-ltb, ltb-false, ltb-true}
-use Rattle.std.proofs.lemmas.List.Elements.{All-head, All-tail}
+use Rattle.std.proofs.lemmas.Bool.{lt-ltb, ltb-false}
 use Rattle.std.proofs.lemmas.List.Sums.{fails_before_first}
 use Rattle.steer_base.specs.Commands.{queue_or_app, user_of}
-use Rattle.steer_base.specs.Sets.{has}
-use Rattle.steer_base.specs.declared.command.Command.{Command}
 use Rattle.steer_base.specs.declared.command.Command.TheVariants as give
 use Rattle.steer_base.specs.declared.command.Refused.{Refused}
 use Rattle.steer_base.specs.declared.command.Refused.TheVariants as refused
 use Rattle.steer_base.proofs.MasksLemmas.{has-first_cpus, has-with_cpu, has-without_cpu}
-use Rattle.history.specs.declared.history.History.{History}
 use Rattle.plan_reader.specs.Ranges.{QueueIsWithin}
-use Rattle.plan_reader.specs.declared.plan.QueuePlan.{QueuePlan}
 use Rattle.steer_model.specs.Good.Commands.{refused_with}
-use Rattle.steer_model.specs.Good.Inputs.{Input, setup_in}
-use Rattle.steer_model.specs.State.Settings.{Settings, changed}
-use Rattle.steer_model.specs.State.Start.{initial_settings}
-use Rattle.steer_model.specs.Steps.Commands.{is_done}
 use Rattle.run_coupling.specs.Coupling.Answers.{AllAnswered, IsAnswered}
-use Rattle.run_coupling.specs.Coupling.Tries.{Try, settings_by}
+use Rattle.run_coupling.proofs.Names.{◌≡◌, ◌≢◌, ℕ, zero, suc, ◌<◌, ◌≤◌, ◌==◌, ◌&&◌, Bool, true}
+use Rattle.run_coupling.proofs.Names.{false, List, [], ◌∷◌, Option, Some, None, length, map, All}
+use Rattle.run_coupling.proofs.Names.{if◌then◌else◌, sym, refl, ap, ◌∙◌, arith, nat_lt, slice_index}
+use Rattle.run_coupling.proofs.Names.{option_map, eq-eqb, ne_eqb, ltb-true, All-head, All-tail, has}
+use Rattle.run_coupling.proofs.Names.{Command, History, QueuePlan, Input, setup_in, Settings}
+use Rattle.run_coupling.proofs.Names.{changed, initial_settings, is_done, Try, settings_by}
 use Rattle.run_coupling.proofs.Tries.RangeLemmas.{IsWithinPlan}
 
 -- the homes of these queues are online

@@ -1,31 +1,24 @@
 -- The words of a transmit board after any tries are the maps of the settings after them.
-use Rattle.std.proofs.Common.{◌≡◌, inl, inr, ℕ, ◌+◌, ◌<◌, Bool, true, List, [], ◌∷◌, ◌++◌, Option}
-use Rattle.std.proofs.Common.{length, All, if◌then◌else◌, sym, refl, ap, ◌∙◌, subst, arith}
-use Rattle.std.specs.Prelude.{slice_index, slice_index_or, slice_set, unwrap_or}
-use Rattle.std.proofs.lemmas.List.{get_or-set_same, get_or-set_other, length-set}
-use Rattle.std.proofs.lemmas.List.Elements.{All-head, All-tail}
-use mathlib.Core.Logic.{dite}
-use native.Mathlib.Decide.{ℕ_discrete}
-use Rattle.linearization.proofs.ListLemmas.{if_same, if_other}
+use Rattle.std.specs.Prelude.{unwrap_or}
+use Rattle.std.proofs.lemmas.List.{get_or-set_same, length-set}
 use Rattle.steer_base.specs.Sends.{first_filled, pick_of}
-use Rattle.steer_base.specs.Sets.{at_hash, has, has_queue, those_below}
-use Rattle.steer_base.specs.declared.command.Command.{Command}
+use Rattle.steer_base.specs.Sets.{at_hash, has_queue, those_below}
 use Rattle.steer_base.specs.declared.command.Command.TheVariants as give
-use Rattle.steer_base.specs.declared.cpu_mask.CpuMask.{CpuMask}
 use Rattle.steer_base.proofs.SetsLemmas.{those_below-same}
 use Rattle.xps_map.specs.Maps.{Maps, no_cpus, picked, serves_cpu, serves_queue}
-use Rattle.hop_rule.specs.Gates.{own_settings, with_setting}
-use Rattle.hop_rule.specs.declared.sizes.BoardSizes.{BoardSizes}
-use Rattle.hop_rule.specs.declared.step.BoardStep.{BoardStep}
-use Rattle.hop_delivery.specs.Orders.Commands.{SettingChange, sent_sets}
 use Rattle.hop_delivery.specs.Orders.ReceiveSettings.{mask}
 use Rattle.hop_delivery.specs.Orders.TransmitSettings.{pick_by}
-use Rattle.steer_model.specs.State.Settings.{Settings, changed}
+use Rattle.run_coupling.proofs.Names.{◌≡◌, inl, inr, ℕ, ◌+◌, ◌<◌, Bool, true, List, [], ◌∷◌, ◌++◌}
+use Rattle.run_coupling.proofs.Names.{Option, length, All, if◌then◌else◌, sym, refl, ap, ◌∙◌, subst}
+use Rattle.run_coupling.proofs.Names.{arith, slice_index, slice_index_or, slice_set}
+use Rattle.run_coupling.proofs.Names.{get_or-set_other, All-head, All-tail, dite, ℕ_discrete}
+use Rattle.run_coupling.proofs.Names.{if_same, if_other, has, Command, CpuMask, own_settings}
+use Rattle.run_coupling.proofs.Names.{with_setting, BoardSizes, BoardStep, SettingChange, sent_sets}
+use Rattle.run_coupling.proofs.Names.{Settings, changed, AreTransmitWords, NamesTransmitQueues}
+use Rattle.run_coupling.proofs.Names.{AllSetByAnswer, Try, sets_and_openings, settings_by}
+use Rattle.run_coupling.proofs.Names.{steps_of_tries, words_after}
 use Rattle.run_coupling.proofs.Tries.TryLemmas.{Form, sets_one, opens, makes_none, form, made-more}
 use Rattle.run_coupling.proofs.Tries.TryLemmas.{words-made}
-use Rattle.run_coupling.specs.Coupling.Inputs.{AreTransmitWords, NamesTransmitQueues}
-use Rattle.run_coupling.specs.Coupling.Tries.{AllSetByAnswer, Try, sets_and_openings, settings_by}
-use Rattle.run_coupling.specs.Coupling.Tries.{steps_of_tries, words_after}
 
 abbrev first_made : List SettingChange → SettingChange
 first_made [] = record { word = 0; value = 0 }

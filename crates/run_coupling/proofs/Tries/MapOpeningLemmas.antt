@@ -1,25 +1,16 @@
 -- The words and the settings of the transmit board at an opening are those of the tries up to it.
-use Rattle.std.proofs.Common.{◌≡◌, ℕ, ◌≤◌, List, length, take, All, sym, ap, ◌∙◌, subst, arith}
-use Rattle.std.proofs.Common.{length-append}
-use Rattle.steer_base.specs.declared.command.Command.{Command}
-use Rattle.history.specs.declared.history.History.{History}
-use Rattle.hop_rule.specs.Boards.{gate_steps}
-use Rattle.hop_rule.specs.Gates.{opened, own_settings}
-use Rattle.hop_rule.specs.Sizes.{closer}
-use Rattle.hop_rule.specs.declared.sizes.BoardSizes.{BoardSizes}
-use Rattle.hop_rule.specs.declared.step.BoardStep.{BoardStep}
-use Rattle.board_api.specs.declared.lists.BoardLists.{BoardLists}
-use Rattle.hop_delivery.specs.Orders.Commands.{SettingChange, sent_sets}
-use Rattle.steer_model.specs.Good.Inputs.{Input, settings_after, settings_at}
-use Rattle.steer_model.specs.State.Settings.{Settings}
-use Rattle.steer_model.specs.State.Start.{initial_settings}
+use Rattle.steer_model.specs.Good.Inputs.{settings_at}
+use Rattle.run_coupling.proofs.Names.{◌≡◌, ℕ, ◌≤◌, List, length, take, All, sym, ap, ◌∙◌, subst}
+use Rattle.run_coupling.proofs.Names.{arith, length-append, Command, History, gate_steps, opened}
+use Rattle.run_coupling.proofs.Names.{own_settings, closer, BoardSizes, BoardStep, BoardLists}
+use Rattle.run_coupling.proofs.Names.{SettingChange, sent_sets, Input, settings_after, Settings}
+use Rattle.run_coupling.proofs.Names.{initial_settings, AreTransmitWords, NamesTransmitQueues}
+use Rattle.run_coupling.proofs.Names.{AllSetByAnswer, Try, settings_by, tries_up_to}
 use Rattle.run_coupling.proofs.Tries.OpeningLemmas.{all-later, are-later}
 use Rattle.run_coupling.proofs.Tries.TryLemmas.{first-tries, given_by, length-given, settings-given}
 use Rattle.run_coupling.proofs.Tries.TryLemmas.{settings_opened, take-given}
 use Rattle.run_coupling.specs.Coupling.Boards.{IsTransmitBoard}
-use Rattle.run_coupling.specs.Coupling.Inputs.{AreTransmitWords, NamesTransmitQueues}
-use Rattle.run_coupling.specs.Coupling.Tries.{AllSetByAnswer, KeepsTransmitTries, Try, at_transmit}
-use Rattle.run_coupling.specs.Coupling.Tries.{settings_by, tries_up_to}
+use Rattle.run_coupling.specs.Coupling.Tries.{KeepsTransmitTries, at_transmit}
 use Rattle.run_coupling.proofs.Tries.MapLemmas.{maps_are}
 
 module _ (i : Input) (h : History) (about : BoardSizes) (own : ℕ → List BoardStep)

@@ -1,27 +1,18 @@
 -- The words and the settings of the receive board at an opening are those of the tries up to it.
-use Rattle.std.proofs.Common.{◌≡◌, ℕ, ◌≤◌, List, [], ◌∷◌, ◌++◌, length, take, All, sym, ap, ◌∙◌}
-use Rattle.std.proofs.Common.{subst, arith, length-append}
-use Rattle.std.proofs.lemmas.List.Elements.{All-tail}
-use Rattle.steer_base.specs.declared.command.Command.{Command}
-use Rattle.history.specs.declared.history.History.{History}
-use Rattle.hop_rule.specs.Boards.{gate_steps}
-use Rattle.hop_rule.specs.Gates.{opened, own_settings}
-use Rattle.hop_rule.specs.Sizes.{closer}
-use Rattle.hop_rule.specs.declared.sizes.BoardSizes.{BoardSizes}
-use Rattle.hop_rule.specs.declared.step.BoardStep.{BoardStep}
-use Rattle.board_api.specs.declared.lists.BoardLists.{BoardLists}
-use Rattle.hop_delivery.specs.Orders.Commands.{SettingChange, received_sets}
-use Rattle.hop_delivery.specs.Orders.ReceiveSettings.{Queues, queues}
-use Rattle.steer_model.specs.Good.Inputs.{Input, settings_after, settings_at}
-use Rattle.steer_model.specs.State.Settings.{Settings}
-use Rattle.steer_model.specs.State.Start.{initial_settings}
+use Rattle.steer_model.specs.Good.Inputs.{settings_at}
+use Rattle.run_coupling.proofs.Names.{◌≡◌, ℕ, ◌≤◌, List, [], ◌∷◌, ◌++◌, length, take, All, sym, ap}
+use Rattle.run_coupling.proofs.Names.{◌∙◌, subst, arith, length-append, All-tail, Command, History}
+use Rattle.run_coupling.proofs.Names.{gate_steps, opened, own_settings, closer, BoardSizes}
+use Rattle.run_coupling.proofs.Names.{BoardStep, BoardLists, SettingChange, received_sets, Queues}
+use Rattle.run_coupling.proofs.Names.{queues, Input, settings_after, Settings, initial_settings}
+use Rattle.run_coupling.proofs.Names.{AreReceiveWords, NamesReceiveQueues, AllSetByAnswer, Try}
+use Rattle.run_coupling.proofs.Names.{settings_by, tries_up_to}
 use Rattle.run_coupling.proofs.Tries.TryLemmas.{first-tries, given_by, length-given, settings-given}
 use Rattle.run_coupling.proofs.Tries.TryLemmas.{settings_opened, take-given}
 use Rattle.run_coupling.proofs.Tries.WordLemmas.{words_are}
 use Rattle.run_coupling.specs.Coupling.Boards.{IsReceiveBoard}
-use Rattle.run_coupling.specs.Coupling.Inputs.{AreReceiveWords, NamesReceiveQueues, receive_queues}
-use Rattle.run_coupling.specs.Coupling.Tries.{AllSetByAnswer, KeepsReceiveTries, Try, at_receive}
-use Rattle.run_coupling.specs.Coupling.Tries.{settings_by, tries_up_to}
+use Rattle.run_coupling.specs.Coupling.Inputs.{receive_queues}
+use Rattle.run_coupling.specs.Coupling.Tries.{KeepsReceiveTries, at_receive}
 use Rattle.run_coupling.proofs.Tries.ResizeLemmas.{resizes_by}
 
 pub are-later : (about : BoardSizes) (sets : (ℕ → ℕ) → Command → List SettingChange)

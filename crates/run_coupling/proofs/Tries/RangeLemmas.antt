@@ -1,22 +1,13 @@
 -- The settings after any tries are within the plan's ranges, and the homes of all queues stay
 -- online.
-use Rattle.std.proofs.Common.{◌≡◌, ◌≢◌, inl, inr, ℕ, zero, suc, ◌+◌, ◌-◌, ◌/◌, ◌^◌, ◌<◌, ◌≤◌, ◌==◌}
-use Rattle.std.proofs.Common.{◌&&◌, Bool, true, false, List, [], ◌∷◌}
-use Rattle.std.proofs.Common.{length, map, All, if◌then◌else◌, sym, refl, ap, ◌∙◌, subst, arith}
 use Rattle.std.proofs.Common.{nat_le, lit<}
-use Rattle.std.specs.Prelude.{find, nat_lt, slice_index, slice_index_or, slice_set}
-use Rattle.std.specs.Prelude.{max, unwrap_or}
+use Rattle.std.specs.Prelude.{find, max, unwrap_or}
 use Rattle.std.specs.Int.{IsPowerOfTwo}
-use Rattle.std.specs.List.{range_with_len}
 use Rattle.std.proofs.Math.Nat.{pow-le-pow_right}
-use Rattle.std.proofs.lemmas.Bool.{cases_Bool, cases_eq, leb-false, ne_eqb}
-use Rattle.std.proofs.lemmas.Bool.{ltb-true}
-use Rattle.std.proofs.lemmas.List.Elements.{All-head, All-tail}
+use Rattle.std.proofs.lemmas.Bool.{cases_Bool, leb-false}
 use Rattle.std.proofs.lemmas.Nat.{and_le_l, or_lt}
-use Rattle.steer_base.specs.Counters.{first_power, rounded_up}
-use Rattle.steer_base.specs.declared.command.Command.{Command}
+use Rattle.steer_base.specs.Counters.{first_power}
 use Rattle.steer_base.specs.declared.command.Command.TheVariants as give
-use Rattle.steer_base.specs.declared.cpu_mask.CpuMask.{CpuMask}
 use Rattle.steer_base.specs.declared.limits.TheConstants.{MAX_FLOW_COUNT, MAX_SOCKET_SIZE}
 use Rattle.steer_base.proofs.CountersLemmas.{first_power-next}
 use Rattle.plan_reader.specs.Plans.{sizes_of}
@@ -24,11 +15,14 @@ use Rattle.plan_reader.specs.Ranges.{QueueIsWithin, TxIsWithin, command_is_withi
 use Rattle.plan_reader.specs.declared.plan.TxPlan.{TxPlan}
 use Rattle.xps_map.specs.Maps.{no_cpus}
 use Rattle.plan_reader.specs.declared.plan.Plan.{Plan}
-use Rattle.plan_reader.specs.declared.plan.QueuePlan.{QueuePlan}
-use Rattle.steer_model.specs.State.Settings.{Settings, changed, mask_of}
-use Rattle.steer_model.specs.State.Start.{initial_settings}
-use Rattle.steer_model.specs.Steps.Commands.{is_done}
-use Rattle.run_coupling.specs.Coupling.Tries.{Try, settings_by}
+use Rattle.steer_model.specs.State.Settings.{mask_of}
+use Rattle.run_coupling.proofs.Names.{◌≡◌, ◌≢◌, inl, inr, ℕ, zero, suc, ◌+◌, ◌-◌, ◌/◌, ◌^◌, ◌<◌}
+use Rattle.run_coupling.proofs.Names.{◌≤◌, ◌==◌, ◌&&◌, Bool, true, false, List, [], ◌∷◌, length}
+use Rattle.run_coupling.proofs.Names.{map, All, if◌then◌else◌, sym, refl, ap, ◌∙◌, subst, arith}
+use Rattle.run_coupling.proofs.Names.{nat_lt, slice_index, slice_index_or, slice_set}
+use Rattle.run_coupling.proofs.Names.{range_with_len, cases_eq, ne_eqb, ltb-true, All-head}
+use Rattle.run_coupling.proofs.Names.{All-tail, rounded_up, Command, CpuMask, QueuePlan, Settings}
+use Rattle.run_coupling.proofs.Names.{changed, initial_settings, is_done, Try, settings_by}
 
 -- ---- rounded numbers
 

@@ -1,21 +1,16 @@
 -- A resize lies between two openings exactly where the words of a queue's flow count differ.
-use Rattle.std.proofs.Common.{◌≡◌, ◌≢◌, ℕ, zero, suc, ◌+◌, ◌*◌, ◌^◌, ◌<◌, ◌==◌, ◌&&◌, ◌||◌, not}
-use Rattle.std.proofs.Common.{Bool, true, false, List, [], ◌∷◌, ◌++◌, take, drop, if◌then◌else◌}
-use Rattle.std.proofs.Common.{sym, refl, ap, ◌∙◌, arith, eq-eqb, ne_eqb}
-use Rattle.std.specs.Prelude.{slice_index}
+use Rattle.std.proofs.Common.{◌||◌, not, eq-eqb, ne_eqb}
 use Rattle.std.specs.List.{list_any}
-use Rattle.std.proofs.lemmas.List.{get_or-set_other}
 use Rattle.std.proofs.lemmas.List.Folds.{list_any-append}
-use Rattle.steer_base.specs.declared.command.Command.{Command}
 use Rattle.steer_base.specs.declared.command.Command.TheVariants as give
-use Rattle.steer_base.specs.Counters.{rounded_up}
 use Rattle.dev_flow_table.specs.Walks.{since_resize}
-use Rattle.history.specs.declared.commanded.Commanded.{Commanded}
-use Rattle.steer_model.specs.Steps.Commands.{is_done}
 use Rattle.steer_model.specs.Good.Inputs.{is_flows, is_resize, since_at}
-use Rattle.steer_model.specs.State.Settings.{Settings, changed}
+use Rattle.run_coupling.proofs.Names.{◌≡◌, ◌≢◌, ℕ, zero, suc, ◌+◌, ◌*◌, ◌^◌, ◌<◌, ◌==◌, ◌&&◌, Bool}
+use Rattle.run_coupling.proofs.Names.{true, false, List, [], ◌∷◌, ◌++◌, take, drop, if◌then◌else◌}
+use Rattle.run_coupling.proofs.Names.{sym, refl, ap, ◌∙◌, arith, slice_index, get_or-set_other}
+use Rattle.run_coupling.proofs.Names.{Command, rounded_up, Commanded, is_done, Settings, changed}
+use Rattle.run_coupling.proofs.Names.{Try, settings_by}
 use Rattle.run_coupling.proofs.Tries.TryLemmas.{given_by}
-use Rattle.run_coupling.specs.Coupling.Tries.{Try, settings_by}
 
 -- how often these tries have resized the flow table of a queue
 abbrev pub resizes_by : ℕ → List Try → ℕ

@@ -1,32 +1,22 @@
 -- The settings of a board at its n-th opening are those of the tries up to it.
-use Rattle.std.proofs.Common.{◌≡◌, ◌≢◌, ◌⊎◌, inl, inr, ℕ, suc, ◌+◌, ◌≤◌, ◌==◌, true, false, List}
-use Rattle.std.proofs.Common.{[], ◌∷◌, ◌++◌, length, map, take, drop, if◌then◌else◌, sym, refl, ap}
-use Rattle.std.proofs.Common.{◌∙◌, arith, append_assoc, length-append}
-use Rattle.std.specs.List.{filter_map}
+use Rattle.std.proofs.Common.{append_assoc}
 use Rattle.std.proofs.lemmas.List.{map-append}
 use Rattle.std.proofs.lemmas.List.Elements.{filter_map-append}
 use Rattle.std.proofs.Math.Seq.{take-append_seam, drop-append_seam}
-use mathlib.Core.Logic.{dite}
-use native.Mathlib.Decide.{ℕ_discrete}
-use Rattle.linearization.proofs.ListLemmas.{if_same, if_other}
-use Rattle.steer_base.specs.declared.command.Command.{Command}
-use Rattle.history.specs.declared.commanded.Commanded.{Commanded}
-use Rattle.hop_rule.specs.Boards.{gate_in, gate_steps}
-use Rattle.hop_rule.specs.Gates.{opened, openings, own_settings, with_setting}
-use Rattle.hop_rule.specs.declared.sizes.BoardSizes.{BoardSizes}
-use Rattle.hop_rule.specs.declared.step.BoardStep.{BoardStep}
+use Rattle.hop_rule.specs.Boards.{gate_in}
+use Rattle.hop_rule.specs.Gates.{openings}
 use Rattle.hop_rule.specs.declared.step.GateStep.{GateStep}
-use Rattle.hop_rule.specs.declared.step.GateStep.TheVariants.{Entered, Turned, Left, Shut, NotShut}
-use Rattle.hop_rule.specs.declared.step.GateStep.TheVariants.{Opened, Set, Read}
-use Rattle.hop_delivery.specs.Orders.Commands.{SettingChange}
-use Rattle.steer_model.specs.Steps.Commands.{is_done}
-use Rattle.steer_model.specs.Good.Inputs.{settings_after}
-use Rattle.steer_model.specs.State.Settings.{Settings, changed}
-use Rattle.run_coupling.specs.Coupling.Tries.{AllSetByAnswer, SetsByAnswer, Try}
-use Rattle.run_words.specs.Lists.{oldest_first}
-use Rattle.run_coupling.specs.Coupling.Tries.{openings_by}
-use Rattle.run_coupling.specs.Coupling.Tries.{set_or_opening, sets_and_openings, settings_by}
-use Rattle.run_coupling.specs.Coupling.Tries.{steps_of_tries, tries_up_to, words_after}
+use Rattle.hop_rule.specs.declared.step.GateStep.TheVariants.{Turned, Left, NotShut, Read}
+use Rattle.run_coupling.specs.Coupling.Tries.{SetsByAnswer, openings_by, set_or_opening}
+use Rattle.run_coupling.proofs.Names.{◌≡◌, ◌≢◌, ◌⊎◌, inl, inr, ℕ, suc, ◌+◌, ◌≤◌, ◌==◌, true, false}
+use Rattle.run_coupling.proofs.Names.{List, [], ◌∷◌, ◌++◌, length, map, take, drop, if◌then◌else◌}
+use Rattle.run_coupling.proofs.Names.{sym, refl, ap, ◌∙◌, arith, length-append, filter_map, dite}
+use Rattle.run_coupling.proofs.Names.{ℕ_discrete, if_same, if_other, Command, Commanded, gate_steps}
+use Rattle.run_coupling.proofs.Names.{opened, own_settings, with_setting, BoardSizes, BoardStep}
+use Rattle.run_coupling.proofs.Names.{Entered, Shut, Opened, Set, SettingChange, is_done}
+use Rattle.run_coupling.proofs.Names.{settings_after, Settings, changed, AllSetByAnswer, Try}
+use Rattle.run_coupling.proofs.Names.{oldest_first, sets_and_openings, settings_by, steps_of_tries}
+use Rattle.run_coupling.proofs.Names.{tries_up_to, words_after}
 
 -- ---- lists the other way round
 

@@ -1,32 +1,22 @@
 -- The words of a receive board after tries are the settings after their commands.
-use Rattle.std.proofs.Common.{◌≡◌, inl, inr, ℕ, suc, ◌+◌, ◌*◌, ◌/◌, ◌^◌, ◌<◌, ◌==◌, ◌&&◌, Bool}
-use Rattle.std.proofs.Common.{true, false, List, [], ◌∷◌, ◌++◌, length, All, if◌then◌else◌, sym}
-use Rattle.std.proofs.Common.{refl, ap, ◌∙◌, subst, arith}
-use Rattle.std.specs.Prelude.{slice_index, slice_index_or, slice_set}
-use Rattle.std.proofs.lemmas.List.{get_or-set_same, get_or-set_other, length-set}
-use Rattle.std.proofs.lemmas.List.Elements.{All-head, All-tail}
-use mathlib.Core.Logic.{dite}
-use native.Mathlib.Decide.{ℕ_discrete}
-use Rattle.linearization.proofs.ListLemmas.{if_same, if_other}
-use Rattle.steer_base.specs.Counters.{rounded_up}
+use Rattle.std.proofs.lemmas.List.{get_or-set_same, length-set}
 use Rattle.steer_base.specs.Sets.{with_cpu, without_cpu}
-use Rattle.steer_base.specs.declared.command.Command.{Command}
 use Rattle.steer_base.specs.declared.command.Command.TheVariants as give
-use Rattle.steer_base.specs.declared.cpu_mask.CpuMask.{CpuMask}
-use Rattle.hop_rule.specs.Gates.{own_settings, with_setting}
-use Rattle.hop_rule.specs.declared.sizes.BoardSizes.{BoardSizes}
-use Rattle.hop_rule.specs.declared.step.BoardStep.{BoardStep}
-use Rattle.hop_delivery.specs.Orders.Commands.{SettingChange, next_flows, received_sets}
-use Rattle.hop_delivery.specs.Orders.ReceiveSettings.{Queues, queues}
-use Rattle.steer_model.specs.Steps.Commands.{is_done}
+use Rattle.hop_delivery.specs.Orders.Commands.{next_flows}
 use Rattle.steer_model.specs.Good.Inputs.{is_flows}
-use Rattle.steer_model.specs.State.Settings.{Settings, changed}
+use Rattle.run_coupling.proofs.Names.{◌≡◌, inl, inr, ℕ, suc, ◌+◌, ◌*◌, ◌/◌, ◌^◌, ◌<◌, ◌==◌, ◌&&◌}
+use Rattle.run_coupling.proofs.Names.{Bool, true, false, List, [], ◌∷◌, ◌++◌, length, All}
+use Rattle.run_coupling.proofs.Names.{if◌then◌else◌, sym, refl, ap, ◌∙◌, subst, arith, slice_index}
+use Rattle.run_coupling.proofs.Names.{slice_index_or, slice_set, get_or-set_other, All-head}
+use Rattle.run_coupling.proofs.Names.{All-tail, dite, ℕ_discrete, if_same, if_other, rounded_up}
+use Rattle.run_coupling.proofs.Names.{Command, CpuMask, own_settings, with_setting, BoardSizes}
+use Rattle.run_coupling.proofs.Names.{BoardStep, SettingChange, received_sets, Queues, queues}
+use Rattle.run_coupling.proofs.Names.{is_done, Settings, changed, AreReceiveWords}
+use Rattle.run_coupling.proofs.Names.{NamesReceiveQueues, AllSetByAnswer, Try, sets_and_openings}
+use Rattle.run_coupling.proofs.Names.{settings_by, steps_of_tries, words_after}
 use Rattle.run_coupling.proofs.Tries.TryLemmas.{Form, sets_one, opens, makes_none, form, made-more}
 use Rattle.run_coupling.proofs.Tries.TryLemmas.{words-made}
-use Rattle.run_coupling.specs.Coupling.Inputs.{AreReceiveWords, NamesReceiveQueues}
-use Rattle.run_coupling.specs.Coupling.Tries.{AllSetByAnswer, Try, sets_and_openings}
 use Rattle.run_coupling.proofs.Tries.ResizeLemmas.{resizes_by}
-use Rattle.run_coupling.specs.Coupling.Tries.{settings_by, steps_of_tries, words_after}
 
 abbrev first_made : List SettingChange → SettingChange
 first_made [] = record { word = 0; value = 0 }

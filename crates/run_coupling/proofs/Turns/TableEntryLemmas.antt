@@ -1,25 +1,21 @@
 -- A producer's own table, told of its turns, has the entries of the lists.
-use Rattle.std.proofs.Common.{◌≡◌, ℕ, List, [], ◌∷◌, Some, map, All, sym, refl, ap, ◌∙◌}
-use Rattle.std.specs.Prelude.{slice_get}
-use Rattle.std.proofs.lemmas.List.Elements.{All-cons, All-head, All-nil, All-tail}
-use Rattle.linearization.specs.Orders.{StepBy, step_by}
+use Rattle.linearization.specs.Orders.{step_by}
 use Rattle.steer_base.specs.Entries.{entry}
 use Rattle.dev_flow_table.specs.Folds.{Agrees, TableIsEntries}
 use Rattle.dev_flow_table.specs.Folds.{Placement}
-use Rattle.hop_rule.specs.Moments.{IsStep, moment_of, nth_step, past}
-use Rattle.hop_rule.specs.declared.sizes.BoardSizes.{BoardSizes}
-use Rattle.hop_rule.specs.declared.step.BoardStep.{BoardStep}
-use Rattle.hop_rule.proofs.Moments.{nth-inside, nth-some, past-next}
+use Rattle.hop_rule.specs.Moments.{IsStep, moment_of, past}
+use Rattle.hop_rule.proofs.Moments.{past-next}
 use Rattle.hop_rule.proofs.Parts.{at_moment}
-use Rattle.board_api.specs.declared.lists.BoardLists.{BoardLists}
-use Rattle.hop_delivery.specs.Orders.Turns.{Turn}
 use Rattle.hop_delivery.proofs.Orders.TurnLemmas.{turns_have_places}
-use Rattle.hop_delivery.specs.Closings.FlowLaw.{accepted_left}
 use Rattle.hop_delivery.specs.Closings.PutPlaces.{AnswersArePlaces}
 use Rattle.hop_delivery.proofs.Closings.PutPlaceLemmas.{turns_put_once}
 use Rattle.run_coupling.specs.Laws.OwnTables.{TablesAreEntries}
 use Rattle.run_coupling.specs.Coupling.OwnTables.{as_told}
 use Rattle.run_coupling.specs.Coupling.Turns.{IsTurnOf}
+use Rattle.run_coupling.proofs.Names.{◌≡◌, ℕ, List, [], ◌∷◌, Some, map, All, sym, refl, ap, ◌∙◌}
+use Rattle.run_coupling.proofs.Names.{slice_get, All-cons, All-head, All-nil, All-tail, StepBy}
+use Rattle.run_coupling.proofs.Names.{nth_step, BoardSizes, BoardStep, nth-inside, nth-some}
+use Rattle.run_coupling.proofs.Names.{BoardLists, Turn, accepted_left}
 
 head-same : {A : Type 0} (xs ys : List A) (x y : A) → x ∷ xs ≡ y ∷ ys → Some x ≡ Some y
 head-same xs ys x y e = ap (λ zs. slice_get zs 0) e

@@ -1,41 +1,30 @@
 -- Choices by own tables are choices by the lists.
-use Rattle.std.proofs.Common.{◌≡◌, ℕ, zero, suc, ◌+◌, ◌≤◌, Bool, List, [], ◌∷◌, ◌++◌, Option}
-use Rattle.std.proofs.Common.{Some, None, length, map, take, drop, All, sym, refl, ap, ◌∙◌, subst}
-use Rattle.std.proofs.Common.{arith}
 use Rattle.std.proofs.lemmas.List.{drop-map, take-map}
-use Rattle.std.proofs.lemmas.List.Elements.{All-cons, All-from_get_or, All-head, All-nil, All-tail}
 use Rattle.std.specs.List.Sorted.{IsNonDecreasingBy}
-use Rattle.std.specs.Prelude.{slice_get}
 use Rattle.std.proofs.lemmas.Option.{get_or_from_slice_get, slice_get_within}
-use Rattle.steer_base.specs.declared.put.LaneDrop.{LaneDrop}
 use Rattle.steer_base.specs.Choices.{by_entry, migrate}
 use Rattle.steer_base.specs.Entries.{entry}
-use Rattle.steer_base.specs.Sets.{has}
 use Rattle.steer_base.specs.declared.choice.Entry.{Entry}
 use Rattle.backlog.specs.Offers.{AllExplained}
 use Rattle.dev_flow_table.specs.Tables.{entries}
 use Rattle.dev_flow_table.specs.Walks.{since_resize}
-use Rattle.history.specs.Lists.{lane_at, no_lane}
-use Rattle.hop_rule.specs.Moments.{nth_step}
-use Rattle.hop_rule.specs.declared.sizes.BoardSizes.{BoardSizes}
-use Rattle.hop_rule.specs.declared.step.BoardStep.{BoardStep}
-use Rattle.hop_rule.proofs.Moments.{nth-inside, nth-last, nth-old}
+use Rattle.history.specs.Lists.{no_lane}
 use Rattle.board_api.specs.Laws.Puts.{DropsHaveCauses}
-use Rattle.board_api.specs.Laws.Lanes.{ListsAreCounted}
 use Rattle.board_api.specs.Laws.Puts as puts
-use Rattle.board_api.specs.declared.lists.BoardLists.{BoardLists}
-use Rattle.hop_delivery.specs.Orders.Runs.{turns_of}
-use Rattle.hop_delivery.specs.Orders.Turns.{Turn}
-use Rattle.hop_delivery.specs.Closings.FlowLaw.{accepted_left}
 use Rattle.hop_delivery.specs.Closings.TurnReads.{before_seen, class_seen, goal_seen, shape_seen}
 use Rattle.steer_model.specs.Good.Drops as good
-use Rattle.steer_model.specs.Good.Inputs.{setup_in}
 use Rattle.steer_model.specs.State.Setup.{packet_hash}
 use Rattle.run_coupling.specs.Laws.Drops.{DropsFollow}
 use Rattle.run_coupling.specs.Laws.OwnTables.{TablesAreEntries, TablesRule}
 use Rattle.run_coupling.specs.Coupling.OwnTables.{table_before}
-use Rattle.run_words.specs.Lists.{oldest_first}
 use Rattle.run_coupling.specs.Coupling.Turns.{IsTurnOf}
+use Rattle.run_coupling.proofs.Names.{◌≡◌, ℕ, zero, suc, ◌+◌, ◌≤◌, Bool, List, [], ◌∷◌, ◌++◌}
+use Rattle.run_coupling.proofs.Names.{Option, Some, None, length, map, take, drop, All, sym, refl}
+use Rattle.run_coupling.proofs.Names.{ap, ◌∙◌, subst, arith, All-cons, All-from_get_or, All-head}
+use Rattle.run_coupling.proofs.Names.{All-nil, All-tail, slice_get, LaneDrop, has, lane_at}
+use Rattle.run_coupling.proofs.Names.{nth_step, BoardSizes, BoardStep, nth-inside, nth-last}
+use Rattle.run_coupling.proofs.Names.{nth-old, ListsAreCounted, BoardLists, turns_of, Turn}
+use Rattle.run_coupling.proofs.Names.{accepted_left, setup_in, oldest_first}
 
 migrate-entries : (class want : Option ℕ) (desired : ℕ) (xs ys : ℕ → Entry) (head : ℕ → ℕ)
     (online : ℕ → Bool) → ((k : ℕ) → class ≡ Some k → xs k ≡ ys k)
