@@ -1,17 +1,11 @@
 -- The actor that a worker plays, and what its call asks for.
-use Rattle.std.proofs.Common.{◌≡◌, ℕ, ◌<◌, ◌≤◌, Some, Vec, slice_get, slice_index_or, sym}
-use Rattle.std.proofs.Common.{subst, ◌∙◌, vec_len}
+use Rattle.std.proofs.Common.{Vec, slice_index_or, vec_len}
 use Rattle.std.proofs.lemmas.Option.{slice_get_read}
 use Rattle.run_words.specs.Numbers.{word_count}
-use Rattle.steer_model.specs.State.Setup.{Setup}
 use Rattle.run_workers.specs.Hands.Drains.{outs_of}
-use Rattle.run_workers.specs.declared.drain.Exit.{Exit}
-use Rattle.run_workers.specs.declared.server.Server.{Server}
-use Rattle.run_workers.specs.Actors.{KeepsServer}
-use Rattle.run_workers.specs.Stages.{HasSizes, StageView}
-use Rattle.run_workers.specs.Workers.{IsWorking}
-use Rattle.run_words.specs.declared.seats.Seats.{Seats}
-use Rattle.run_workers.specs.declared.worker.Worker.{Worker}
+use Rattle.run_workers.specs.Stages.{HasSizes}
+use Rattle.run_workers.proofs.Names.{◌≡◌, ℕ, ◌<◌, ◌≤◌, Some, slice_get, sym, subst, ◌∙◌, Setup}
+use Rattle.run_workers.proofs.Names.{Exit, Server, KeepsServer, StageView, IsWorking, Seats, Worker}
 
 -- the item that was read at an index is there
 pub read_at : {A Z : Type 0} (v : Vec A Z) (i : ℕ) (x : A) → i < vec_len v

@@ -1,35 +1,18 @@
 -- A new worker, and one that knows the arrivals.
-use Rattle.std.proofs.Common.{◌≡◌, ℕ, List, [], None, refl, sym, subst, length}
 use Rattle.std.proofs.lemmas.List.Elements.{All-nil}
-use Rattle.linearization.specs.Orders.{StepBy}
-use Rattle.history.specs.declared.arrival.Arrival.{Arrival}
-use Rattle.hint_words.specs.declared.step.HintStep.{HintStep}
-use Rattle.hop_rule.proofs.Lists.{none-some}
-use Rattle.hop_rule.specs.Boards.{lane_steps}
-use Rattle.hop_rule.specs.Lanes.{holding, idle, out_holding, phase}
-use Rattle.hop_rule.specs.declared.sizes.BoardSizes.{BoardSizes}
-use Rattle.board_api.specs.Calls.Rights.{HasOpen, IsOutside}
-use Rattle.board_api.specs.Seats.{BoardSeatView}
-use Rattle.board_api.specs.Views.{BoardView}
-use Rattle.hop_delivery.specs.Orders.Turns.{Explained, Turn}
-use Rattle.steer_model.specs.State.Setup.{Setup}
-use Rattle.run_workers.specs.Hands.Drains.{IsDrain}
-use Rattle.run_workers.specs.declared.drain.Drain.{Drain}
-use Rattle.run_workers.specs.declared.drain.Exit.{Exit}
-use Rattle.run_workers.specs.declared.drain.Exit.TheVariants.{Inboxes, Port}
-use Rattle.run_workers.specs.declared.poller.Poller.{Poller}
-use Rattle.run_workers.specs.declared.server.Server.{Server}
 use Rattle.run_words.specs.declared.shared.Shared.{Shared}
-use Rattle.run_workers.specs.Records.Storing.{StoresAreFor}
-use Rattle.run_workers.specs.Records.Words.{Mark, Note}
+use Rattle.run_workers.proofs.Names.{◌≡◌, ℕ, List, [], None, refl, sym, subst, length, StepBy}
+use Rattle.run_workers.proofs.Names.{Arrival, HintStep, none-some, lane_steps, holding, idle}
+use Rattle.run_workers.proofs.Names.{out_holding, phase, BoardSizes, HasOpen, IsOutside}
+use Rattle.run_workers.proofs.Names.{BoardSeatView, BoardView, Explained, Turn, Setup, IsDrain}
+use Rattle.run_workers.proofs.Names.{Drain, Exit, Inboxes, Port, Poller, Server, StoresAreFor, Mark}
+use Rattle.run_workers.proofs.Names.{Note, KeepsDrain, KeepsPoller, KeepsServer, StageView}
+use Rattle.run_workers.proofs.Names.{stage_view, IsBetween, Seats}
 use Rattle.run_workers.proofs.Records.PollingLemmas.{pollers_begin}
 use Rattle.run_workers.proofs.Records.ReplyingLemmas.{arrivals_come, servers_begin}
-use Rattle.run_workers.specs.Actors.{KeepsDrain, KeepsPoller, KeepsServer}
 use Rattle.run_workers.specs.Laws.{ArrivalsBecomeKnown, IsNewDrain, IsNewPoller}
 use Rattle.run_workers.specs.Laws.{IsNewServer, WorkersBegin}
-use Rattle.run_workers.specs.Stages.{HasSizes, StageView, stage_view}
-use Rattle.run_workers.specs.Workers.{IsBetween}
-use Rattle.run_words.specs.declared.seats.Seats.{Seats}
+use Rattle.run_workers.specs.Stages.{HasSizes}
 
 -- ---- the beginning
 

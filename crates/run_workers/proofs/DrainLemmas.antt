@@ -1,20 +1,9 @@
 -- A worker after one of its drains went on, at the receive board or at the transmit board.
-use Rattle.std.proofs.Common.{◌≡◌, ℕ, Some, ap, ◌∙◌, length, length-set, slice_get, slice_set}
-use Rattle.linearization.specs.Seats.{SeatView}
-use Rattle.hint_words.specs.declared.step.HintStep.{HintStep}
-use Rattle.board_api.specs.Seats.{BoardSeatView}
-use Rattle.steer_model.specs.State.Setup.{Setup}
-use Rattle.run_workers.specs.Hands.Deltas.{Serves, this_lane}
-use Rattle.run_workers.specs.Hands.Drains.{IsDrain}
-use Rattle.run_workers.specs.declared.drain.Drain.{Drain}
-use Rattle.run_workers.specs.declared.drain.Exit.TheVariants.{Inboxes, Port}
-use Rattle.run_workers.specs.Records.Growth.{Grows}
+use Rattle.run_workers.proofs.Names.{◌≡◌, ℕ, Some, ap, ◌∙◌, length, length-set, slice_get}
+use Rattle.run_workers.proofs.Names.{slice_set, SeatView, HintStep, BoardSeatView, Setup, Serves}
+use Rattle.run_workers.proofs.Names.{this_lane, IsDrain, Drain, Inboxes, Port, Grows, KeepsPoller}
+use Rattle.run_workers.proofs.Names.{KeepsServer, StageView, GoesOn, IsWorking, Seats, Worker}
 use Rattle.run_workers.proofs.Records.HintLemmas.{steps_same}
-use Rattle.run_workers.specs.Actors.{KeepsPoller, KeepsServer}
-use Rattle.run_workers.specs.Stages.{StageView}
-use Rattle.run_workers.specs.Workers.{GoesOn, IsWorking}
-use Rattle.run_words.specs.declared.seats.Seats.{Seats}
-use Rattle.run_workers.specs.declared.worker.Worker.{Worker}
 use Rattle.run_workers.proofs.KeepLemmas.{KeepsReceive, KeepsTransmit, pollers_stay, receive_stays}
 use Rattle.run_workers.proofs.KeepLemmas.{received, servers_stay, stores_stay, transmit_stays}
 use Rattle.run_workers.proofs.KeepLemmas.{transmitted, works}

@@ -1,15 +1,10 @@
 -- Lists whose items are so at their indices, and the actors that a seat plays.
-use Rattle.std.proofs.Common.{◌≡◌, ◌≢◌, ◌⊎◌, inl, inr, ℕ, zero, suc, ◌+◌, ◌-◌, ◌*◌, ◌<◌, ◌≤◌}
-use Rattle.std.proofs.Common.{◌==◌, max, true, false, List, [], ◌∷◌, Some, refl, sym, subst, ◌∙◌}
-use Rattle.std.proofs.Common.{length, slice_get, slice_set, arith, All, mul_comm, le_antisymm}
-use Rattle.std.proofs.Common.{le_of_mul-le-mul_right}
-use Rattle.std.proofs.lemmas.Bool.Decides.{eqb_tells}
-use Rattle.std.proofs.lemmas.List.Elements.{All-cons}
-use Rattle.linearization.specs.Orders.{StepBy, step_by}
-use Rattle.hop_rule.specs.declared.sizes.BoardSizes.{BoardSizes}
-use Rattle.hop_rule.proofs.Lists.{none-some, some-is}
-use Rattle.run_workers.specs.Records.Growth.{TurnsGrow}
-use Rattle.run_workers.specs.Actors.{Each, IsTurnOfOne, actor_at}
+use Rattle.std.proofs.Common.{◌-◌, max, mul_comm, le_antisymm, le_of_mul-le-mul_right}
+use Rattle.run_workers.proofs.Names.{◌≡◌, ◌≢◌, ◌⊎◌, inl, inr, ℕ, zero, suc, ◌+◌, ◌*◌, ◌<◌, ◌≤◌}
+use Rattle.run_workers.proofs.Names.{◌==◌, true, false, List, [], ◌∷◌, Some, refl, sym, subst, ◌∙◌}
+use Rattle.run_workers.proofs.Names.{length, slice_get, slice_set, arith, All, eqb_tells, All-cons}
+use Rattle.run_workers.proofs.Names.{StepBy, step_by, BoardSizes, none-some, some-is, TurnsGrow}
+use Rattle.run_workers.proofs.Names.{Each, IsTurnOfOne, actor_at}
 
 module _ {A : Type 0} where
   -- each item of a list in which one is set

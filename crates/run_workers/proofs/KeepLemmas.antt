@@ -1,27 +1,11 @@
 -- What a worker keeps at the one board, at the other, and of its stores: what it keeps all in all,
 -- and what stays while it works elsewhere.
-use Rattle.std.proofs.Common.{◌≡◌, ℕ, List, All, refl, sym, ap, subst, ◌∙◌, length}
-use Rattle.linearization.specs.Orders.{StepBy}
-use Rattle.linearization.specs.Seats.{SeatView}
-use Rattle.hint_words.specs.declared.step.HintStep.{HintStep}
-use Rattle.board_api.specs.Calls.Rights.{HasOpen, IsOutside}
-use Rattle.board_api.specs.Seats.{BoardSeatView}
-use Rattle.board_api.specs.Views.{BoardView}
-use Rattle.hop_delivery.specs.Orders.Turns.{Explained, Turn}
-use Rattle.steer_model.specs.State.Setup.{Setup}
-use Rattle.run_workers.specs.Hands.Deltas.{no_lane}
-use Rattle.run_workers.specs.Hands.Drains.{IsDrain}
-use Rattle.run_workers.specs.declared.drain.Drain.{Drain}
-use Rattle.run_workers.specs.declared.drain.Exit.{Exit}
-use Rattle.run_workers.specs.declared.drain.Exit.TheVariants.{Inboxes, Port}
-use Rattle.run_workers.specs.Records.Growth.{Grows}
-use Rattle.run_workers.specs.Records.Storing.{StoresAreFor}
-use Rattle.run_workers.specs.Records.Words.{Mark, Note}
-use Rattle.run_workers.specs.Actors.{Each, IsTurnOfOne, KeepsDrain, KeepsPoller, KeepsServer}
-use Rattle.run_workers.specs.Stages.{StageView}
-use Rattle.run_workers.specs.Workers.{IsBetween, IsWorking}
-use Rattle.run_words.specs.declared.seats.Seats.{Seats}
-use Rattle.run_workers.specs.declared.worker.Worker.{Worker}
+use Rattle.run_workers.proofs.Names.{◌≡◌, ℕ, List, All, refl, sym, ap, subst, ◌∙◌, length, StepBy}
+use Rattle.run_workers.proofs.Names.{SeatView, HintStep, HasOpen, IsOutside, BoardSeatView}
+use Rattle.run_workers.proofs.Names.{BoardView, Explained, Turn, Setup, no_lane, IsDrain, Drain}
+use Rattle.run_workers.proofs.Names.{Exit, Inboxes, Port, Grows, StoresAreFor, Mark, Note, Each}
+use Rattle.run_workers.proofs.Names.{IsTurnOfOne, KeepsDrain, KeepsPoller, KeepsServer, StageView}
+use Rattle.run_workers.proofs.Names.{IsBetween, IsWorking, Seats, Worker}
 use Rattle.run_workers.proofs.EachLemmas.{each_more, turns_stay}
 use Rattle.run_workers.proofs.SeatLemmas.{Moves, between_calls}
 use Rattle.run_workers.proofs.StayLemmas.{drain_stays, poller_stays, server_stays}

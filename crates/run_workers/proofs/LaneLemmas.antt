@@ -1,20 +1,11 @@
 -- What a worker keeps of its drains at a board after one of them went on.
-use Rattle.std.proofs.Common.{◌≡◌, ◌≢◌, ℕ, ◌==◌, false, List, Some, ap, ◌∙◌}
-use Rattle.std.proofs.Common.{length, length-set, slice_get, slice_set}
-use Rattle.std.proofs.lemmas.Option.{slice_get_within}
-use Rattle.linearization.specs.Orders.{StepBy}
-use Rattle.board_api.specs.Seats.{BoardSeatView}
-use Rattle.board_api.specs.Views.{BoardView}
-use Rattle.hop_delivery.specs.Orders.Turns.{Turn}
-use Rattle.steer_model.specs.State.Setup.{Setup}
-use Rattle.run_workers.specs.Hands.Deltas.{Serves, this_lane}
-use Rattle.run_workers.specs.Hands.Drains.{IsDrain}
-use Rattle.run_workers.specs.declared.drain.Drain.{Drain}
-use Rattle.run_workers.specs.declared.drain.Exit.{Exit}
+use Rattle.run_workers.proofs.Names.{◌≡◌, ◌≢◌, ℕ, ◌==◌, false, List, Some, ap, ◌∙◌, length}
+use Rattle.run_workers.proofs.Names.{length-set, slice_get, slice_set, slice_get_within, StepBy}
+use Rattle.run_workers.proofs.Names.{BoardSeatView, BoardView, Turn, Setup, Serves, this_lane}
+use Rattle.run_workers.proofs.Names.{IsDrain, Drain, Exit, Each, IsForeign, KeepsDrain}
 use Rattle.run_workers.proofs.Hands.DrainLemmas.{serves_leave}
 use Rattle.run_workers.proofs.Hands.VisitLemmas.{serves_explain}
 use Rattle.run_workers.proofs.Records.AddedLemmas.{calls_add_steps}
-use Rattle.run_workers.specs.Actors.{Each, IsForeign, KeepsDrain}
 use Rattle.run_workers.proofs.EachLemmas.{actors_differ, differs, each_same, each_set, turns_stay}
 use Rattle.run_workers.proofs.KeepLemmas.{KeepsBoard}
 use Rattle.run_workers.proofs.SameLemmas.{SameSeat}

@@ -7,6 +7,7 @@ pub mod EachLemmas
 pub mod KeepLemmas
 pub mod LaneLemmas
 pub mod LookLemmas
+pub mod Names
 pub mod PollLemmas
 pub mod ReplyLemmas
 pub mod RestLemmas

@@ -1,18 +1,13 @@
 -- A worker after a look at a hint word, and how often it has looked.
-use Rattle.std.proofs.Common.{◌≡◌, ℕ, ◌+◌, ◌≤◌, cond, List, [], ◌∷◌, ◌++◌, refl, ap, ◌∙◌, arith}
+use Rattle.std.proofs.Common.{cond}
 use Rattle.std.proofs.lemmas.List.Sums.{sum_by-append, sum_by-cons}
-use Rattle.linearization.specs.Seats.{SeatView}
-use Rattle.hint_words.specs.declared.step.HintStep.{HintStep}
-use Rattle.hint_words.specs.declared.step.HintStep.TheVariants.{Load}
 use Rattle.run_words.specs.declared.hint_word.TheConstants.{DONE_WORD}
-use Rattle.run_workers.specs.Records.Growth.{Grows}
+use Rattle.run_workers.proofs.Names.{◌≡◌, ℕ, ◌+◌, ◌≤◌, List, [], ◌∷◌, ◌++◌, refl, ap, ◌∙◌, arith}
+use Rattle.run_workers.proofs.Names.{SeatView, HintStep, Load, Grows, StageView, GoesOn, IsWorking}
+use Rattle.run_workers.proofs.Names.{Seats, Worker}
 use Rattle.run_workers.proofs.Records.HintLemmas.{steps_one}
 use Rattle.run_workers.proofs.Records.StoringLemmas.{load_stores}
 use Rattle.run_workers.specs.Looks.{Looks, is_look, look_count}
-use Rattle.run_workers.specs.Stages.{StageView}
-use Rattle.run_workers.specs.Workers.{GoesOn, IsWorking}
-use Rattle.run_words.specs.declared.seats.Seats.{Seats}
-use Rattle.run_workers.specs.declared.worker.Worker.{Worker}
 use Rattle.run_workers.proofs.KeepLemmas.{receive_stays, transmit_stays, works}
 use Rattle.run_workers.proofs.SameLemmas.{same_worker}
 

@@ -1,29 +1,19 @@
 -- A worker after a poll of one of its pollers.
-use Rattle.std.proofs.Common.{◌≡◌, ◌≢◌, ℕ, ◌<◌, ◌≤◌, All, Some, sym, ap, subst, ◌∙◌}
-use Rattle.std.proofs.Common.{length, length-set, slice_get, slice_set}
-use Rattle.std.proofs.lemmas.Option.{slice_get_within}
 use Rattle.rtrb.specs.Ring.{SameConsumer}
-use Rattle.board_api.specs.Calls.Rights.{HasOpen, IsOutside}
-use Rattle.board_api.specs.Seats.{BoardSeatView}
-use Rattle.steer_model.specs.State.Setup.{Setup}
 use Rattle.run_workers.specs.Hands.Laws.{Stays}
-use Rattle.run_workers.specs.Hands.Pollers.{IsPoller, Polls}
-use Rattle.run_workers.specs.declared.drain.Exit.TheVariants.{Inboxes}
-use Rattle.run_workers.specs.declared.poller.Poller.{Poller}
+use Rattle.run_workers.proofs.Names.{◌≡◌, ◌≢◌, ℕ, ◌<◌, ◌≤◌, All, Some, sym, ap, subst, ◌∙◌, length}
+use Rattle.run_workers.proofs.Names.{length-set, slice_get, slice_set, slice_get_within, HasOpen}
+use Rattle.run_workers.proofs.Names.{IsOutside, BoardSeatView, Setup, IsPoller, Polls, Inboxes}
+use Rattle.run_workers.proofs.Names.{Poller, Grows, IsTurnOfOne, KeepsPoller, actor_at, StageView}
+use Rattle.run_workers.proofs.Names.{dropped_by, GoesOn, IsWorking, Seats, Worker}
 use Rattle.run_workers.proofs.Hands.StayLemmas.{polls_drop, polls_stay}
 use Rattle.run_workers.proofs.Hands.VisitLemmas.{polls_leave}
-use Rattle.run_workers.specs.Records.Growth.{Grows}
 use Rattle.run_workers.specs.Records.Polling.{IsPolling}
 use Rattle.run_workers.specs.Records.PollingLaws.{PollsOn}
 use Rattle.run_workers.proofs.Records.AddedLemmas.{calls_add_steps}
 use Rattle.run_workers.proofs.Records.ListLemmas.{others_stay}
 use Rattle.run_workers.proofs.Records.PollingLemmas.{pollers_go_on}
-use Rattle.run_workers.specs.Actors.{IsTurnOfOne, KeepsPoller, actor_at}
-use Rattle.run_workers.specs.Stages.{StageView}
-use Rattle.run_workers.specs.Tally.{dropped_by}
-use Rattle.run_workers.specs.Workers.{GoesOn, HasDrops, HasRings, IsWorking}
-use Rattle.run_words.specs.declared.seats.Seats.{Seats}
-use Rattle.run_workers.specs.declared.worker.Worker.{Worker}
+use Rattle.run_workers.specs.Workers.{HasDrops, HasRings}
 use Rattle.run_workers.proofs.EachLemmas.{actors_differ, each_same, each_set, turns_of_ones}
 use Rattle.run_workers.proofs.EachLemmas.{turns_stay}
 use Rattle.run_workers.proofs.KeepLemmas.{KeepsReceive, board_calls, notes_stay, received}

@@ -1,27 +1,17 @@
 -- A worker after one of its applications replied or kept its packet.
-use Rattle.std.proofs.Common.{◌≡◌, ◌≢◌, ℕ, ◌<◌, inr, Bool, [], Some, refl, sym, ap, subst, ◌∙◌}
-use Rattle.std.proofs.Common.{length, length-set, slice_get, slice_set}
-use Rattle.std.proofs.lemmas.Option.{slice_get_within}
-use Rattle.board_api.specs.Calls.Rights.{HasOpen, IsOutside}
-use Rattle.board_api.specs.Seats.{BoardSeatView}
-use Rattle.steer_model.specs.State.Setup.{Setup}
-use Rattle.run_workers.specs.Hands.Laws.{StaysApplication}
-use Rattle.run_workers.specs.Hands.Servers.{IsServer, RepliesOrKeeps}
-use Rattle.run_workers.specs.declared.drain.Exit.TheVariants.{Port}
-use Rattle.run_workers.specs.declared.server.Server.{Server}
+use Rattle.run_workers.proofs.Names.{◌≡◌, ◌≢◌, ℕ, ◌<◌, inr, Bool, [], Some, refl, sym, ap, subst}
+use Rattle.run_workers.proofs.Names.{◌∙◌, length, length-set, slice_get, slice_set}
+use Rattle.run_workers.proofs.Names.{slice_get_within, HasOpen, IsOutside, BoardSeatView, Setup}
+use Rattle.run_workers.proofs.Names.{StaysApplication, IsServer, RepliesOrKeeps, Port, Server}
+use Rattle.run_workers.proofs.Names.{Grows, KeepsServer, actor_at, StageView, GoesOn, HasHomes}
+use Rattle.run_workers.proofs.Names.{IsWorking, Seats, Worker}
 use Rattle.run_workers.proofs.Hands.ServerLaws.{applications_leave_drains, applications_stay}
-use Rattle.run_workers.specs.Records.Growth.{Grows}
 use Rattle.run_workers.specs.Records.Replying.{IsReplying}
 use Rattle.run_workers.specs.Records.ReplyingLaws.{RepliesOn}
 use Rattle.run_workers.proofs.Records.AddedLemmas.{calls_add_steps}
 use Rattle.run_workers.proofs.Records.ListLemmas.{others_stay}
 use Rattle.run_workers.proofs.Records.ReplyingLemmas.{replies_go_on}
 use Rattle.run_workers.proofs.Records.StoringLemmas.{applications_store}
-use Rattle.run_workers.specs.Actors.{KeepsServer, actor_at}
-use Rattle.run_workers.specs.Stages.{StageView}
-use Rattle.run_workers.specs.Workers.{GoesOn, HasHomes, IsWorking}
-use Rattle.run_words.specs.declared.seats.Seats.{Seats}
-use Rattle.run_workers.specs.declared.worker.Worker.{Worker}
 use Rattle.run_workers.proofs.EachLemmas.{actors_differ, each_same, each_set, turns_of_ones}
 use Rattle.run_workers.proofs.KeepLemmas.{KeepsTransmit, board_calls, marks_stay, notes_stay}
 use Rattle.run_workers.proofs.KeepLemmas.{receive_stays, transmitted, works}

@@ -1,24 +1,15 @@
 -- A worker with no packet in a hand.
-use Rattle.std.proofs.Common.{◌≡◌, ◌≢◌, ◌⊎◌, inl, inr, ℕ, zero, suc, ◌<◌, ◌==◌, Bool, true, false}
-use Rattle.std.proofs.Common.{◌&&◌, List, [], ◌∷◌, Option, None, Some, is_none, length, slice_get}
-use Rattle.std.proofs.Common.{refl, sym, ap, subst, ◌∙◌, arith}
-use Rattle.std.proofs.lemmas.Bool.Decides.{eqb_tells}
-use Rattle.hop_rule.proofs.Lists.{none-some, some-is}
-use Rattle.hop_rule.specs.Boards.{lane_steps}
-use Rattle.hop_rule.specs.Lanes.{idle, phase}
-use Rattle.hop_rule.specs.declared.sizes.BoardSizes.{BoardSizes}
+use Rattle.std.proofs.Common.{◌&&◌, is_none}
 use Rattle.board_api.specs.Closings.Closings.{IsAtRest}
-use Rattle.board_api.specs.Seats.{BoardSeatView}
-use Rattle.board_api.specs.Views.{BoardView}
-use Rattle.steer_model.specs.State.Setup.{Setup}
 use Rattle.run_workers.specs.Hands.Drains.{hand_phase}
-use Rattle.run_workers.specs.declared.drain.Drain.{Drain}
-use Rattle.run_workers.specs.declared.drain.Exit.{Exit}
-use Rattle.run_workers.specs.declared.drain.Exit.TheVariants.{Inboxes, Port}
-use Rattle.run_workers.specs.Actors.{Each, IsForeign, KeepsDrain, actor_at}
 use Rattle.run_workers.specs.Laws.{FreeWorkersRest}
-use Rattle.run_workers.specs.Workers.{IsBetween, drains_are_free, pollers_are_free}
-use Rattle.run_workers.specs.Workers.{servers_are_free}
+use Rattle.run_workers.specs.Workers.{drains_are_free, pollers_are_free, servers_are_free}
+use Rattle.run_workers.proofs.Names.{◌≡◌, ◌≢◌, ◌⊎◌, inl, inr, ℕ, zero, suc, ◌<◌, ◌==◌, Bool, true}
+use Rattle.run_workers.proofs.Names.{false, List, [], ◌∷◌, Option, None, Some, length, slice_get}
+use Rattle.run_workers.proofs.Names.{refl, sym, ap, subst, ◌∙◌, arith, eqb_tells, none-some}
+use Rattle.run_workers.proofs.Names.{some-is, lane_steps, idle, phase, BoardSizes, BoardSeatView}
+use Rattle.run_workers.proofs.Names.{BoardView, Setup, Drain, Exit, Inboxes, Port, Each, IsForeign}
+use Rattle.run_workers.proofs.Names.{KeepsDrain, actor_at, IsBetween}
 use Rattle.run_workers.proofs.EachLemmas.{item_at}
 
 -- ---- tests

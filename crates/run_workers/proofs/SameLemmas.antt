@@ -1,21 +1,14 @@
 -- A worker stays the same while it goes on.
-use Rattle.std.proofs.Common.{◌≡◌, ℕ, ◌<◌, ◌≤◌, List, refl, sym, ap, subst, ◌∙◌, length}
-use Rattle.std.proofs.Common.{[], Some, arith, slice_get, slice_set}
-use Rattle.std.proofs.lemmas.Option.{slice_get_within}
 use Rattle.rtrb.specs.Ring.{SameConsumer}
-use Rattle.board_api.specs.Seats.{BoardSeatView}
-use Rattle.run_workers.specs.declared.poller.Poller.{Poller}
-use Rattle.run_workers.specs.declared.server.Server.{Server}
-use Rattle.run_workers.specs.Records.Growth.{Grows}
+use Rattle.run_workers.proofs.Names.{◌≡◌, ℕ, ◌<◌, ◌≤◌, List, refl, sym, ap, subst, ◌∙◌, length, []}
+use Rattle.run_workers.proofs.Names.{Some, arith, slice_get, slice_set, slice_get_within}
+use Rattle.run_workers.proofs.Names.{BoardSeatView, Poller, Server, Grows, StageView, dropped_by}
+use Rattle.run_workers.proofs.Names.{GoesOn, HasHomes, IsWorking, Seats, Worker}
 use Rattle.run_workers.proofs.Records.ListLemmas.{grows_both}
 use Rattle.run_workers.specs.Parts.{actor_count}
-use Rattle.run_workers.specs.Stages.{StageView}
-use Rattle.run_workers.specs.Tally.{dropped_by}
-use Rattle.run_workers.specs.Workers.{GoesOn, HasDrops, HasHomes, HasRings, IsSame, IsWorking}
-use Rattle.run_words.specs.declared.seats.Seats.{Seats}
+use Rattle.run_workers.specs.Workers.{HasDrops, HasRings, IsSame}
 use Rattle.run_workers.specs.declared.worker.Part.{Part}
 use Rattle.run_workers.specs.declared.worker.Part.TheVariants as part
-use Rattle.run_workers.specs.declared.worker.Worker.{Worker}
 use Rattle.run_workers.proofs.EachLemmas.{each_same, each_set, item_at, one_there}
 
 -- ---- rings

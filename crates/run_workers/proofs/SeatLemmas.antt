@@ -1,33 +1,17 @@
 -- A seat between two calls.
-use Rattle.std.proofs.Common.{◌≡◌, ◌⊎◌, inl, inr, ℕ, ◌*◌, Bool, true, false, List, [], ◌∷◌, ◌++◌}
-use Rattle.std.proofs.Common.{Some, refl, ap, subst, ◌∙◌, length}
-use Rattle.linearization.specs.Seats.{SeatView}
-use Rattle.history.specs.declared.arrival.Arrival.{Arrival}
-use Rattle.hint_words.specs.declared.step.HintStep.{HintStep}
-use Rattle.hop_rule.specs.Boards.{gate_steps, lane_steps}
-use Rattle.hop_rule.specs.Gates.{closed, visit}
-use Rattle.hop_rule.specs.Lanes.{holding, out_holding, phase}
-use Rattle.hop_rule.specs.declared.sizes.BoardSizes.{BoardSizes}
-use Rattle.hop_rule.specs.declared.step.BoardStep.{BoardStep}
-use Rattle.hop_rule.specs.declared.step.BoardStep.TheVariants.{Gate}
-use Rattle.hop_rule.specs.declared.step.GateStep.TheVariants.{Entered, Left, Read, Turned}
-use Rattle.board_api.specs.Calls.Rights.{HasOpen, IsOutside}
 use Rattle.board_api.specs.Laws.OwnSteps.{StandsAs}
-use Rattle.board_api.specs.Seats.{BoardSeatView, Adds}
-use Rattle.board_api.specs.Views.{BoardView}
-use Rattle.board_api.proofs.AddedSteps.{quiet_steps_stay}
-use Rattle.hop_delivery.specs.Orders.Turns.{visit_with}
-use Rattle.steer_model.specs.State.Setup.{Setup}
-use Rattle.run_workers.specs.Hands.Deltas.{HoldsNoMore, LeavesLane, Serves, no_lane}
-use Rattle.run_workers.specs.Hands.Pollers.{Polls, SteersHand, Waits}
-use Rattle.run_workers.specs.Hands.Servers.{BacksOut, RepliesOrKeeps, TakesOrLeaves}
-use Rattle.run_workers.specs.declared.poller.Poller.{Poller}
-use Rattle.run_workers.specs.declared.server.Server.{Server}
+use Rattle.run_workers.proofs.Names.{◌≡◌, ◌⊎◌, inl, inr, ℕ, ◌*◌, Bool, true, false, List, [], ◌∷◌}
+use Rattle.run_workers.proofs.Names.{◌++◌, Some, refl, ap, subst, ◌∙◌, length, SeatView, Arrival}
+use Rattle.run_workers.proofs.Names.{HintStep, gate_steps, lane_steps, closed, visit, holding}
+use Rattle.run_workers.proofs.Names.{out_holding, phase, BoardSizes, BoardStep, Gate, Entered, Left}
+use Rattle.run_workers.proofs.Names.{Read, Turned, HasOpen, IsOutside, BoardSeatView, Adds}
+use Rattle.run_workers.proofs.Names.{BoardView, quiet_steps_stay, visit_with, Setup, HoldsNoMore}
+use Rattle.run_workers.proofs.Names.{LeavesLane, Serves, no_lane, Polls, SteersHand, Waits}
+use Rattle.run_workers.proofs.Names.{BacksOut, RepliesOrKeeps, TakesOrLeaves, Poller, Server}
+use Rattle.run_workers.proofs.Names.{IsForeign, IsBetween}
 use Rattle.run_workers.proofs.Hands.DeltaLemmas.{adds_both, holds_both, leaves_both}
 use Rattle.run_workers.proofs.Hands.DeltaLemmas.{without_reasons}
 use Rattle.run_workers.proofs.Hands.WaitLemmas.{leaves_at_board, waits_at_board}
-use Rattle.run_workers.specs.Actors.{IsForeign}
-use Rattle.run_workers.specs.Workers.{IsBetween}
 
 abbrev Hint : Type 0
 Hint = SeatView HintStep

@@ -1,23 +1,11 @@
 -- What a worker keeps of its actors while another one goes on.
-use Rattle.std.proofs.Common.{◌≡◌, ℕ, ◌<◌, List, ap, sym, subst, refl, ◌∙◌}
-use Rattle.linearization.specs.Orders.{StepBy, steps_of}
-use Rattle.hop_rule.specs.declared.sizes.BoardSizes.{BoardSizes}
 use Rattle.board_api.specs.Calls.Rights.{Pulls}
-use Rattle.board_api.specs.Seats.{BoardSeatView}
-use Rattle.hop_delivery.specs.Orders.Turns.{Turn}
-use Rattle.steer_model.specs.State.Setup.{Setup}
-use Rattle.run_workers.specs.Hands.Drains.{IsDrain}
-use Rattle.run_workers.specs.declared.drain.Drain.{Drain}
-use Rattle.run_workers.specs.declared.drain.Exit.{Exit}
-use Rattle.run_workers.specs.declared.poller.Poller.{Poller}
-use Rattle.run_workers.specs.declared.server.Server.{Server}
-use Rattle.run_workers.specs.Records.Growth.{Grows}
-use Rattle.run_workers.specs.Records.Words.{Mark, Note}
+use Rattle.run_workers.proofs.Names.{◌≡◌, ℕ, ◌<◌, List, ap, sym, subst, refl, ◌∙◌, StepBy, steps_of}
+use Rattle.run_workers.proofs.Names.{BoardSizes, BoardSeatView, Turn, Setup, IsDrain, Drain, Exit}
+use Rattle.run_workers.proofs.Names.{Poller, Server, Grows, Mark, Note, KeepsDrain, KeepsPoller}
+use Rattle.run_workers.proofs.Names.{KeepsServer, actor_at, StageView, Seats}
 use Rattle.run_workers.proofs.Records.PollingLemmas.{pollers_stay}
 use Rattle.run_workers.proofs.Records.ReplyingLemmas.{servers_stay}
-use Rattle.run_workers.specs.Actors.{KeepsDrain, KeepsPoller, KeepsServer, actor_at}
-use Rattle.run_workers.specs.Stages.{StageView}
-use Rattle.run_words.specs.declared.seats.Seats.{Seats}
 
 module _ (t : StageView) (s r : Seats) where
   pub poller_stays : (first : ℕ → ℕ) (turns more : List (StepBy Turn))

@@ -1,30 +1,18 @@
 -- A worker after one of its applications took a packet or none.
-use Rattle.std.proofs.Common.{◌≡◌, ◌≢◌, ℕ, ◌<◌, inl, inr, All, Bool, List, Some, refl, sym, ap}
-use Rattle.std.proofs.Common.{subst, ◌∙◌, length, length-set, slice_get, slice_set}
-use Rattle.std.proofs.lemmas.Option.{slice_get_within}
-use Rattle.linearization.specs.Orders.{StepBy}
-use Rattle.board_api.specs.Calls.Rights.{HasOpen, IsOutside}
-use Rattle.board_api.specs.Seats.{BoardSeatView}
-use Rattle.steer_model.specs.State.Setup.{Setup}
-use Rattle.run_workers.specs.Hands.Laws.{StaysApplication}
-use Rattle.run_workers.specs.Hands.Servers.{IsServer, TakesOrLeaves}
-use Rattle.run_workers.specs.declared.drain.Exit.TheVariants.{Inboxes, Port}
-use Rattle.run_workers.specs.declared.server.Server.{Server}
+use Rattle.run_workers.proofs.Names.{◌≡◌, ◌≢◌, ℕ, ◌<◌, inl, inr, All, Bool, List, Some, refl, sym}
+use Rattle.run_workers.proofs.Names.{ap, subst, ◌∙◌, length, length-set, slice_get, slice_set}
+use Rattle.run_workers.proofs.Names.{slice_get_within, StepBy, HasOpen, IsOutside, BoardSeatView}
+use Rattle.run_workers.proofs.Names.{Setup, StaysApplication, IsServer, TakesOrLeaves, Inboxes}
+use Rattle.run_workers.proofs.Names.{Port, Server, Grows, TurnsGrow, NotesGrow, Note, IsTurnOfOne}
+use Rattle.run_workers.proofs.Names.{KeepsPoller, KeepsServer, actor_at, StageView, GoesOn}
+use Rattle.run_workers.proofs.Names.{HasHomes, IsWorking, Seats, Worker}
 use Rattle.run_workers.proofs.Hands.ServerLaws.{applications_explain, applications_leave_drains}
 use Rattle.run_workers.proofs.Hands.ServerLaws.{applications_stay}
-use Rattle.run_workers.specs.Records.Growth.{Grows, TurnsGrow}
 use Rattle.run_workers.specs.Records.ReplyingLaws.{TakesOn}
-use Rattle.run_workers.specs.Records.Storing.{NotesGrow}
-use Rattle.run_workers.specs.Records.Words.{Note}
 use Rattle.run_workers.proofs.Records.AddedLemmas.{calls_add_steps}
 use Rattle.run_workers.proofs.Records.ListLemmas.{others_stay}
 use Rattle.run_workers.proofs.Records.ReplyingLemmas.{takes_go_on}
 use Rattle.run_workers.proofs.Records.StoringLemmas.{applications_store}
-use Rattle.run_workers.specs.Actors.{IsTurnOfOne, KeepsPoller, KeepsServer, actor_at}
-use Rattle.run_workers.specs.Stages.{StageView}
-use Rattle.run_workers.specs.Workers.{GoesOn, HasHomes, IsWorking}
-use Rattle.run_words.specs.declared.seats.Seats.{Seats}
-use Rattle.run_workers.specs.declared.worker.Worker.{Worker}
 use Rattle.run_workers.proofs.EachLemmas.{actors_differ, each_same, each_set, turns_of_ones}
 use Rattle.run_workers.proofs.EachLemmas.{turns_stay}
 use Rattle.run_workers.proofs.KeepLemmas.{KeepsReceive, KeepsTransmit, board_calls, board_stays}

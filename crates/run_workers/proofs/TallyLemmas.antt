@@ -1,33 +1,25 @@
 -- What a worker has finished never falls, and what it has told is no more.
-use Rattle.std.proofs.Common.{◌≡◌, ◌≢◌, ◌⊎◌, inl, inr, ℕ, zero, suc, ◌+◌, ◌<◌, ◌≤◌, List, [], ◌∷◌}
-use Rattle.std.proofs.Common.{All, Some, refl, sym, ap, subst, ◌∙◌, length, arith, take}
 use Rattle.std.specs.Prelude.{slice_get}
-use Rattle.std.specs.List.{Contains, sum, sum_by}
+use Rattle.std.specs.List.{sum, sum_by}
 use Rattle.std.proofs.lemmas.Bool.{cases_eq}
 use Rattle.std.proofs.lemmas.List.{length-append}
-use Rattle.std.proofs.lemmas.List.Elements.{All-contains, filter_map-append}
+use Rattle.std.proofs.lemmas.List.Elements.{All-contains}
 use Rattle.std.proofs.lemmas.List.Sums.{sum_by-cons, sum_by-take-le}
-use Rattle.linearization.specs.Seats.{SeatView}
 use Rattle.hint_words.specs.Loads.{ComesFrom, LoadsAreStored}
-use Rattle.hint_words.specs.declared.step.HintStep.{HintStep}
-use Rattle.hint_words.specs.declared.step.HintStep.TheVariants.{ClearIf, Load, Store}
-use Rattle.hop_rule.proofs.Lists.{none-some, some-is}
-use Rattle.hop_rule.specs.declared.step.BoardStep.{BoardStep}
+use Rattle.hint_words.specs.declared.step.HintStep.TheVariants.{ClearIf, Store}
 use Rattle.board_api.specs.OwnSteps.{retired_by, retired_in as retired_step}
-use Rattle.run_workers.specs.declared.drain.Drain.{Drain}
 use Rattle.run_workers.specs.declared.tally.Counter.{Counter}
 use Rattle.run_workers.specs.declared.tally.Tally.{Tally}
-use Rattle.run_workers.specs.declared.worker.Worker.{Worker}
 use Rattle.run_words.specs.declared.hint_word.TheConstants.{DONE_WORD}
 use Rattle.run_words.specs.declared.values.TheConstants.{DONE as DONE_VALUE}
-use Rattle.run_words.specs.declared.seats.Seats.{Seats}
-use Rattle.run_workers.specs.Actors.{Each, KeepsDrain, actor_at}
-use Rattle.run_workers.specs.declared.drain.Exit.TheVariants.{Port}
-use Rattle.run_workers.specs.Records.Growth.{Grows}
-use Rattle.run_workers.specs.Stages.{StageView}
-use Rattle.run_workers.specs.Tally.{CountsOn, HasFinished, IsCounter, Loaded, LoadedCountsHold}
-use Rattle.run_workers.specs.Tally.{StoreAtMostTheirs, StoresAtMost, dropped_by, finished_by}
-use Rattle.run_workers.specs.Workers.{GoesOn, IsWorking}
+use Rattle.run_workers.specs.Tally.{HasFinished, IsCounter, Loaded, LoadedCountsHold}
+use Rattle.run_workers.specs.Tally.{StoreAtMostTheirs, StoresAtMost}
+use Rattle.run_workers.proofs.Names.{◌≡◌, ◌≢◌, ◌⊎◌, inl, inr, ℕ, zero, suc, ◌+◌, ◌<◌, ◌≤◌, List, []}
+use Rattle.run_workers.proofs.Names.{◌∷◌, All, Some, refl, sym, ap, subst, ◌∙◌, length, arith, take}
+use Rattle.run_workers.proofs.Names.{Contains, filter_map-append, SeatView, HintStep, Load}
+use Rattle.run_workers.proofs.Names.{none-some, some-is, BoardStep, Drain, Worker, Seats, Each}
+use Rattle.run_workers.proofs.Names.{KeepsDrain, actor_at, Port, Grows, StageView, CountsOn}
+use Rattle.run_workers.proofs.Names.{dropped_by, finished_by, GoesOn, IsWorking}
 use Rattle.run_workers.proofs.EachLemmas.{item_at}
 use Rattle.run_workers.proofs.Records.ListLemmas.{contains_first, contains_later}
 

@@ -1,19 +1,14 @@
 -- The calls of a turn, one after another.
-use Rattle.std.proofs.Common.{◌≡◌, ◌≢◌, ◌⊎◌, inl, inr, ℕ, zero, suc, ◌+◌, ◌<◌, ◌≤◌, ◌||◌, Bool}
-use Rattle.std.proofs.Common.{true, false, List, [], ◌∷◌, Some, length, refl, sym, ap, subst, ◌∙◌}
-use Rattle.std.proofs.Common.{arith, slice_get, slice_set}
-use Rattle.std.proofs.lemmas.Option.{slice_get_within}
-use Rattle.hop_rule.proofs.Lists.{some-is}
-use Rattle.run_words.specs.declared.seats.Seats.{Seats}
 use Rattle.run_workers.specs.Parts.{actor_count}
-use Rattle.run_workers.specs.Stages.{StageView}
 use Rattle.run_workers.specs.Turns.{AllHaveCalls, CallsFirst, CallsOne, HasCall, HasTurn}
-use Rattle.run_workers.specs.Turns.{OthersStay, Plays, Replied, SeatsGrow, Served, Took, actors}
-use Rattle.run_workers.specs.Workers.{GoesOn}
-use Rattle.run_workers.specs.declared.server.Server.{Server}
+use Rattle.run_workers.specs.Turns.{OthersStay, Replied, SeatsGrow, Served, Took}
 use Rattle.run_workers.specs.declared.worker.Part.{Part}
 use Rattle.run_workers.specs.declared.worker.Part.TheVariants as part
-use Rattle.run_workers.specs.declared.worker.Worker.{Worker}
+use Rattle.run_workers.proofs.Names.{◌≡◌, ◌≢◌, ◌⊎◌, inl, inr, ℕ, zero, suc, ◌+◌, ◌<◌, ◌≤◌, ◌||◌}
+use Rattle.run_workers.proofs.Names.{Bool, true, false, List, [], ◌∷◌, Some, length, refl, sym, ap}
+use Rattle.run_workers.proofs.Names.{subst, ◌∙◌, arith, slice_get, slice_set, slice_get_within}
+use Rattle.run_workers.proofs.Names.{some-is, Seats, StageView, Plays, actors, GoesOn, Server}
+use Rattle.run_workers.proofs.Names.{Worker}
 use Rattle.run_workers.proofs.EachLemmas.{each_same, each_set, set_there}
 use Rattle.run_workers.proofs.Records.ListLemmas.{grows_both, grows_same}
 

@@ -1,29 +1,24 @@
 -- A poller's table names processors of the board, and so do its choices.
-use Rattle.std.proofs.Common.{◌≡◌, ◌≢◌, ◌⊎◌, inl, inr, ℕ, ◌<◌, ◌==◌, nat_lt, Bool, true, false}
-use Rattle.std.proofs.Common.{◌&&◌, ◌%◌, true≢false, List, Option, None, Some, IfSome, IsTrue, refl}
-use Rattle.std.proofs.Common.{sym, ap, subst, ◌∙◌, length, arith, All, if◌then◌else◌, slice_index}
+use Rattle.std.proofs.Common.{nat_lt, ◌&&◌, ◌%◌, true≢false, IsTrue}
 use Rattle.std.specs.Option.{IsSome}
 use Rattle.std.proofs.Math.Nat.{mod-lt}
-use Rattle.std.proofs.lemmas.Bool.Decides.{eqb_tells, nat_tests}
+use Rattle.std.proofs.lemmas.Bool.Decides.{nat_tests}
 use Rattle.std.proofs.lemmas.List.{get_or-replicate, get_or-set_same, get_or-set_other, length-set}
 use Rattle.std.proofs.lemmas.List.{length-replicate}
 use Rattle.std.proofs.lemmas.List.Elements.{All-get_or}
 use Rattle.steer_base.specs.Choices.{desired_cpu, migrate}
 use Rattle.steer_base.specs.Counters.{rounded_up}
 use Rattle.steer_base.specs.HashTables.{place_in_rows}
-use Rattle.steer_base.specs.Sets.{has}
-use Rattle.steer_base.specs.declared.choice.Choice.{Choice}
 use Rattle.steer_base.specs.declared.choice.Entry.{Entry}
-use Rattle.steer_base.specs.declared.cpu_mask.CpuMask.{CpuMask}
-use Rattle.steer_base.specs.declared.put.Put.{Put}
-use Rattle.steer_base.specs.declared.put.Put.TheVariants.{At, Dropped}
 use Rattle.steer_base.proofs.RuleLemmas.{by_entry-class, by_entry-lane}
-use Rattle.dev_flow_table.specs.Tables.{IsClassOf, Table, cleared, entries, entry_after, unset}
-use Rattle.dev_flow_table.specs.Folds.{table_after}
-use Rattle.dev_flow_table.specs.Tables.{recorded, weighed}
+use Rattle.dev_flow_table.specs.Tables.{cleared, entries, entry_after, unset, recorded}
 use Rattle.dev_flow_table.proofs.MovesLemmas.{choice_is_recorded}
 use Rattle.run_words.specs.Values.{flows_in}
-use Rattle.run_workers.specs.Hands.Pollers.{HasLanesBelow, refreshed}
+use Rattle.run_workers.proofs.Names.{◌≡◌, ◌≢◌, ◌⊎◌, inl, inr, ℕ, ◌<◌, ◌==◌, Bool, true, false, List}
+use Rattle.run_workers.proofs.Names.{Option, None, Some, IfSome, refl, sym, ap, subst, ◌∙◌, length}
+use Rattle.run_workers.proofs.Names.{arith, All, if◌then◌else◌, slice_index, eqb_tells, has, Choice}
+use Rattle.run_workers.proofs.Names.{CpuMask, Put, At, Dropped, IsClassOf, Table, table_after}
+use Rattle.run_workers.proofs.Names.{weighed, HasLanesBelow, refreshed}
 
 -- the class of a hash is one of the table
 pub class_is : (table : Table) (hash : Option ℕ) → IsClassOf table (place_in_rows table.rows hash)

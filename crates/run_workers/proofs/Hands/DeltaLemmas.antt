@@ -1,28 +1,19 @@
 -- Steps that a hand adds, and steps one after another.
-use Rattle.std.proofs.Common.{◌≡◌, ◌⊎◌, inl, inr, ℕ, ◌==◌, List, [], ◌∷◌, ◌++◌, None, Some, Option}
-use Rattle.std.proofs.Common.{refl, sym, ap, subst, ◌∙◌, true, false, Bool, if◌then◌else◌}
-use Rattle.std.proofs.Common.{append_assoc}
-use Rattle.std.proofs.lemmas.List.Elements.{filter_map-append}
-use Rattle.steer_base.specs.Lanes.{LaneLists}
-use Rattle.hop_rule.specs.Boards.{lane_steps, out_slot}
-use Rattle.hop_rule.specs.Lanes.{holding, out_holding, phase}
-use Rattle.hop_rule.specs.OutLanes.{OutList}
 use Rattle.hop_rule.specs.Owns.{puts_of, visits_of, put_in, visit_in}
-use Rattle.hop_rule.specs.declared.sizes.BoardSizes.{BoardSizes}
-use Rattle.hop_rule.specs.declared.step.BoardStep.{BoardStep}
-use Rattle.hop_rule.specs.declared.step.BoardStep.TheVariants.{Counted, Lane, LaneIn, LaneOut}
+use Rattle.hop_rule.specs.declared.step.BoardStep.TheVariants.{Counted, LaneOut}
 use Rattle.hop_rule.specs.declared.step.Change.TheVariants.{Nothing}
-use Rattle.hop_rule.specs.declared.step.LaneStep.TheVariants.{Held, Missed, OutHeld, OutMissed}
-use Rattle.hop_rule.specs.declared.step.LaneStep.TheVariants.{OutFreed}
-use Rattle.board_api.specs.Calls.Results.{Took, BackTells, released}
+use Rattle.hop_rule.specs.declared.step.LaneStep.TheVariants.{Held, Missed, OutMissed}
 use Rattle.board_api.specs.OwnSteps.{delivered_by, delivered_in, retired_by, retired_in}
-use Rattle.board_api.specs.Seats.{BoardSeatView, Adds}
-use Rattle.board_api.specs.declared.held_lane.HeldLane.{HeldLane}
 use Rattle.board_api.specs.declared.held_lane.HeldLane.TheVariants as held
 use Rattle.board_api.specs.declared.held_lane.LaneId.TheVariants as id
-use Rattle.hop_delivery.specs.Orders.Turns.{AreQuiet}
 use Rattle.run_workers.specs.Hands.Drains.{Looks}
-use Rattle.run_workers.specs.Hands.Deltas.{HoldsNoMore, LeavesLane, OnlyServes, Serves}
+use Rattle.run_workers.proofs.Names.{◌≡◌, ◌⊎◌, inl, inr, ℕ, ◌==◌, List, [], ◌∷◌, ◌++◌, None, Some}
+use Rattle.run_workers.proofs.Names.{Option, refl, sym, ap, subst, ◌∙◌, true, false, Bool}
+use Rattle.run_workers.proofs.Names.{if◌then◌else◌, append_assoc, filter_map-append, LaneLists}
+use Rattle.run_workers.proofs.Names.{lane_steps, out_slot, holding, out_holding, phase, OutList}
+use Rattle.run_workers.proofs.Names.{BoardSizes, BoardStep, Lane, LaneIn, OutHeld, OutFreed, Took}
+use Rattle.run_workers.proofs.Names.{BackTells, released, BoardSeatView, Adds, HeldLane, AreQuiet}
+use Rattle.run_workers.proofs.Names.{HoldsNoMore, LeavesLane, OnlyServes, Serves}
 
 -- what is None in both cases
 pub none_either : {A : Type 0} (b : Bool) (x y : Option A) → x ≡ None

@@ -1,30 +1,22 @@
 -- What steps leave of a drain's record.
-use Rattle.std.proofs.Common.{◌≡◌, ℕ, ◌+◌, ◌==◌, List, [], ◌∷◌, ◌++◌, All, None, Some, refl, sym}
-use Rattle.std.proofs.Common.{ap, subst, ◌∙◌, false, length, arith, Bool}
 use Rattle.std.proofs.lemmas.Bool.{eq-eqb}
-use Rattle.std.proofs.lemmas.List.Elements.{All-cons, filter_map-append}
-use Rattle.steer_base.specs.Lanes.{LaneLists}
-use Rattle.linearization.proofs.ListLemmas.{if_same}
-use Rattle.steer_model.specs.State.Setup.{Setup}
-use Rattle.hop_rule.specs.Boards.{lane_steps, out_slot}
 use Rattle.hop_rule.specs.Deliveries.{Delivery, delivery}
-use Rattle.hop_rule.specs.Lanes.{Phase, idle, gave, has_pulled, holding, out_holding, phase}
-use Rattle.hop_rule.specs.OutLanes.{OutList}
-use Rattle.hop_rule.specs.declared.sizes.BoardSizes.{BoardSizes}
-use Rattle.hop_rule.specs.declared.step.BoardStep.{BoardStep}
-use Rattle.hop_rule.specs.declared.step.BoardStep.TheVariants.{Lane, LaneIn}
+use Rattle.hop_rule.specs.Lanes.{Phase, gave, has_pulled}
 use Rattle.hop_rule.specs.declared.step.Change.TheVariants.{Pulled}
 use Rattle.hop_rule.specs.declared.step.LaneStep.TheVariants.{Given, Retired}
-use Rattle.board_api.specs.Calls.Results.{Took, DeliverTells, PullTells, RetireTells, released}
+use Rattle.board_api.specs.Calls.Results.{DeliverTells, PullTells, RetireTells}
 use Rattle.board_api.specs.OwnSteps.{delivered_by, delivered_in, retired_by, retired_in}
-use Rattle.board_api.specs.Seats.{BoardSeatView, Adds}
 use Rattle.board_api.specs.declared.answers.Pull.TheVariants as pull
-use Rattle.board_api.specs.declared.held_lane.HeldLane.{HeldLane}
 use Rattle.board_api.specs.declared.held_lane.HeldLane.TheVariants as held
 use Rattle.board_api.specs.declared.held_lane.LaneId.TheVariants as id
-use Rattle.run_workers.specs.Hands.Deltas.{LeavesLane, OnlyServes, Serves, this_lane}
-use Rattle.run_workers.specs.Hands.Drains.{IsDrain, hand_phase, out_for}
-use Rattle.run_workers.specs.declared.drain.Drain.{Drain}
+use Rattle.run_workers.specs.Hands.Drains.{hand_phase, out_for}
+use Rattle.run_workers.proofs.Names.{◌≡◌, ℕ, ◌+◌, ◌==◌, List, [], ◌∷◌, ◌++◌, All, None, Some, refl}
+use Rattle.run_workers.proofs.Names.{sym, ap, subst, ◌∙◌, false, length, arith, Bool, All-cons}
+use Rattle.run_workers.proofs.Names.{filter_map-append, LaneLists, if_same, Setup, lane_steps}
+use Rattle.run_workers.proofs.Names.{out_slot, idle, holding, out_holding, phase, OutList}
+use Rattle.run_workers.proofs.Names.{BoardSizes, BoardStep, Lane, LaneIn, Took, released}
+use Rattle.run_workers.proofs.Names.{BoardSeatView, Adds, HeldLane, LeavesLane, OnlyServes, Serves}
+use Rattle.run_workers.proofs.Names.{this_lane, IsDrain, Drain}
 use Rattle.run_workers.proofs.Hands.DeltaLemmas.{adds_both, held_steps, none_either, out_held_steps}
 use Rattle.run_workers.proofs.Hands.DeltaLemmas.{serves_back, serves_next}
 

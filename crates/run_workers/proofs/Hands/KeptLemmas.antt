@@ -1,12 +1,11 @@
 -- The maps that an application keeps, before any word was read.
-use Rattle.std.proofs.Common.{ℕ, ◌≡◌, ◌<◌, ◌≤◌, ◌^◌, Bool, true, false, List, length, replicate}
-use Rattle.std.proofs.Common.{take, refl, sym, ap, ap₂, ◌∙◌, arith, slice_index, slice_index_or}
+use Rattle.std.proofs.Common.{◌^◌, replicate, ap₂, slice_index_or}
 use Rattle.std.specs.Prelude.{nat_lt, if◌then◌else◌}
 use Rattle.std.proofs.lemmas.List.{get_or-replicate, length-replicate, take-replicate}
-use Rattle.steer_base.specs.declared.cpu_mask.CpuMask.{CpuMask}
-use Rattle.xps_map.specs.Maps.{Maps, no_cpus}
-use Rattle.run_words.specs.Values.{cpus_in, queues_in}
 use Rattle.run_workers.specs.Hands.KeptMaps.{IsByWords}
+use Rattle.run_workers.proofs.Names.{ℕ, ◌≡◌, ◌<◌, ◌≤◌, Bool, true, false, List, length, take, refl}
+use Rattle.run_workers.proofs.Names.{sym, ap, ◌∙◌, arith, slice_index, CpuMask, Maps, no_cpus}
+use Rattle.run_workers.proofs.Names.{cpus_in, queues_in}
 
 either : (b : Bool) (n : ℕ) → (if b then n else n) ≡ n
 either true n = refl

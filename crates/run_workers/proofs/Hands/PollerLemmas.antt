@@ -1,14 +1,8 @@
 -- A poller's record after a packet was steered.
-use Rattle.std.proofs.Common.{◌≡◌, ◌≤◌, ℕ, ◌+◌, [], ◌∷◌, ◌++◌, Option, None, Some, refl}
-use Rattle.std.proofs.Common.{sym, ap, subst, ◌∙◌, false, length, length-append, arith}
-use Rattle.steer_base.specs.Journals.{Journal, grown}
-use Rattle.steer_base.specs.declared.choice.Chosen.{Chosen}
-use Rattle.steer_base.specs.declared.put.Put.{Put}
-use Rattle.steer_base.specs.declared.put.Put.TheVariants.{At, Dropped}
-use Rattle.dev_flow_table.specs.Folds.{table_after}
-use Rattle.dev_flow_table.specs.Tables.{IsClassOf, Table}
-use Rattle.run_workers.specs.Hands.Pollers.{HasLanesBelow, IsPoller, count_after}
-use Rattle.run_workers.specs.declared.poller.Poller.{Poller}
+use Rattle.run_workers.proofs.Names.{◌≡◌, ◌≤◌, ℕ, ◌+◌, [], ◌∷◌, ◌++◌, Option, None, Some, refl, sym}
+use Rattle.run_workers.proofs.Names.{ap, subst, ◌∙◌, false, length, length-append, arith, Journal}
+use Rattle.run_workers.proofs.Names.{grown, Chosen, Put, At, Dropped, table_after, IsClassOf, Table}
+use Rattle.run_workers.proofs.Names.{HasLanesBelow, IsPoller, count_after, Poller}
 use Rattle.run_workers.proofs.Hands.ChoiceLemmas.{told_below}
 
 told_exact : (table : Table) (class : Option ℕ) (answer : Put)

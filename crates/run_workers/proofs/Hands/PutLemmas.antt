@@ -1,33 +1,17 @@
 -- The steps of a put: a middle lane taken, and given back with one more packet.
-use Rattle.std.proofs.Common.{◌≡◌, ℕ, ◌==◌, List, ◌∷◌, ◌++◌, None, Some, Option, refl, ap}
-use Rattle.std.proofs.Common.{subst, ◌∙◌}
-use Rattle.linearization.specs.Seats.{SeatView}
-use Rattle.steer_base.specs.Lanes.{LaneLists}
-use Rattle.steer_base.specs.declared.choice.Choice.{Choice}
 use Rattle.steer_base.specs.declared.put.DropCause.{DropCause}
-use Rattle.steer_base.specs.declared.put.Put.{Put}
-use Rattle.steer_base.specs.declared.put.Put.TheVariants.{Dropped}
-use Rattle.dev_flow_table.specs.Folds.{table_after}
-use Rattle.dev_flow_table.specs.Tables.{Table}
-use Rattle.hint_words.specs.declared.step.HintStep.{HintStep}
-use Rattle.hop_rule.specs.Boards.{gate_steps, lane_steps}
-use Rattle.hop_rule.specs.Gates.{visit}
-use Rattle.hop_rule.specs.Lanes.{holding}
-use Rattle.hop_rule.specs.declared.sizes.BoardSizes.{BoardSizes}
-use Rattle.hop_rule.specs.declared.step.BoardStep.{BoardStep}
-use Rattle.hop_rule.specs.declared.step.BoardStep.TheVariants.{Lane, LaneIn}
 use Rattle.hop_rule.specs.declared.step.Change.TheVariants.{Offered}
 use Rattle.hop_rule.specs.declared.step.LaneStep.TheVariants.{Freed}
-use Rattle.board_api.specs.Calls.Results.{PutTells, released}
-use Rattle.board_api.specs.Calls.Rights.{IsInside}
-use Rattle.board_api.specs.Seats.{BoardSeatView, Adds}
-use Rattle.board_api.specs.declared.held_lane.HeldLane.{HeldLane}
 use Rattle.board_api.specs.declared.held_lane.HeldLane.TheVariants as held
-use Rattle.board_api.proofs.AddedSteps.{quiet_steps_stay}
-use Rattle.hop_delivery.specs.Orders.Turns.{AreQuiet}
-use Rattle.steer_model.specs.State.Setup.{Setup, packet_hash}
-use Rattle.run_workers.specs.Hands.Pollers.{AsksFilter, Puts, count_after}
-use Rattle.run_workers.specs.Hands.Deltas.{HoldsNoMore, LeavesLane, TakesLane}
+use Rattle.run_workers.specs.Hands.Pollers.{Puts}
+use Rattle.run_workers.specs.Hands.Deltas.{TakesLane}
+use Rattle.run_workers.proofs.Names.{◌≡◌, ℕ, ◌==◌, List, ◌∷◌, ◌++◌, None, Some, Option, refl, ap}
+use Rattle.run_workers.proofs.Names.{subst, ◌∙◌, SeatView, LaneLists, Choice, Put, Dropped}
+use Rattle.run_workers.proofs.Names.{table_after, Table, HintStep, gate_steps, lane_steps, visit}
+use Rattle.run_workers.proofs.Names.{holding, BoardSizes, BoardStep, Lane, LaneIn, PutTells}
+use Rattle.run_workers.proofs.Names.{released, IsInside, BoardSeatView, Adds, HeldLane}
+use Rattle.run_workers.proofs.Names.{quiet_steps_stay, AreQuiet, Setup, packet_hash, AsksFilter}
+use Rattle.run_workers.proofs.Names.{count_after, HoldsNoMore, LeavesLane}
 use Rattle.run_workers.proofs.Hands.DeltaLemmas.{adds_both, held_steps, holds_both, leaves_both}
 use Rattle.run_workers.proofs.Hands.DeltaLemmas.{none_either, quiet_both}
 

@@ -1,42 +1,25 @@
 -- What an application's seat does at the transmit board.
-use Rattle.std.proofs.Common.{◌≡◌, ◌≢◌, ◌⊎◌, inl, inr, ℕ, ◌+◌, ◌<◌, ◌==◌, true, false, arith}
-use Rattle.std.proofs.Common.{List, [], ◌∷◌, ◌++◌, Option, None, Some, refl, sym, ap}
-use Rattle.std.proofs.Common.{subst, ◌∙◌, length, length-append, unwrap_or}
-use Rattle.std.proofs.lemmas.Bool.Decides.{eqb_tells}
 use Rattle.std.proofs.lemmas.List.{get_or-set_same, get_or-set_other, length-set}
-use Rattle.std.proofs.lemmas.List.Elements.{Contains-append_left, Contains-append_right}
-use Rattle.std.proofs.lemmas.List.Elements.{Contains-push}
-use Rattle.steer_base.specs.declared.choice.Choice.{Choice}
-use Rattle.steer_base.specs.declared.cpu_mask.CpuMask.{CpuMask}
-use Rattle.steer_base.specs.declared.put.Put.{Put}
-use Rattle.dev_flow_table.specs.Folds.{table_after}
-use Rattle.dev_flow_table.specs.Tables.{Table, IsClassOf, weighed}
-use Rattle.xps_map.specs.Maps.{Maps, no_cpus, picked}
-use Rattle.hop_rule.specs.declared.step.BoardStep.{BoardStep}
-use Rattle.hop_rule.specs.declared.step.BoardStep.TheVariants.{Gate}
-use Rattle.hop_rule.specs.declared.step.GateStep.TheVariants.{Entered, Left, Read}
-use Rattle.hop_rule.specs.Boards.{gate_steps}
-use Rattle.hop_rule.specs.Gates.{closed, visit}
-use Rattle.board_api.specs.Calls.Rights.{HasOpen, IsInside}
-use Rattle.board_api.specs.Seats.{BoardSeatView, Adds}
+use Rattle.xps_map.specs.Maps.{picked}
 use Rattle.board_api.specs.StepWords.{is_marked}
-use Rattle.hop_delivery.specs.Orders.Turns.{AreQuiet, Turn, visit_with}
-use Rattle.history.specs.declared.sent.Sent.{Sent}
-use Rattle.linearization.specs.Seats.{SeatView}
-use Rattle.hint_words.specs.declared.step.HintStep.{HintStep}
-use Rattle.steer_base.specs.Journals.{Journal, grown}
-use Rattle.steer_base.specs.declared.choice.Chosen.{Chosen}
-use Rattle.steer_base.specs.declared.put.Put.TheVariants.{At, Dropped}
-use Rattle.steer_model.specs.State.Setup.{Setup, flow_number_of, packet_hash}
-use Rattle.run_words.specs.Values.{cpus_in, queues_in}
+use Rattle.steer_model.specs.State.Setup.{flow_number_of}
 use Rattle.run_workers.specs.Hands.KeptMaps.{Kept, with_map}
-use Rattle.run_workers.specs.Hands.Pollers.{HasLanesBelow, put_of}
-use Rattle.run_workers.specs.Hands.Servers.{ChoosesLane, IsServer, MapRead, MapsRead, PutsReply}
-use Rattle.run_workers.specs.Hands.Servers.{ReadsMap, Replies, Sends, Stands, in_hand}
-use Rattle.run_workers.specs.declared.server.Server.{Server}
+use Rattle.run_workers.specs.Hands.Pollers.{put_of}
+use Rattle.run_workers.specs.Hands.Servers.{ChoosesLane, MapRead, MapsRead, PutsReply, ReadsMap}
+use Rattle.run_workers.specs.Hands.Servers.{Replies, Sends, Stands, in_hand}
+use Rattle.run_workers.proofs.Names.{◌≡◌, ◌≢◌, ◌⊎◌, inl, inr, ℕ, ◌+◌, ◌<◌, ◌==◌, true, false, arith}
+use Rattle.run_workers.proofs.Names.{List, [], ◌∷◌, ◌++◌, Option, None, Some, refl, sym, ap, subst}
+use Rattle.run_workers.proofs.Names.{◌∙◌, length, length-append, unwrap_or, eqb_tells}
+use Rattle.run_workers.proofs.Names.{Contains-append_left, Contains-append_right, Contains-push}
+use Rattle.run_workers.proofs.Names.{Choice, CpuMask, Put, table_after, Table, IsClassOf, weighed}
+use Rattle.run_workers.proofs.Names.{Maps, no_cpus, BoardStep, Gate, Entered, Left, Read}
+use Rattle.run_workers.proofs.Names.{gate_steps, closed, visit, HasOpen, IsInside, BoardSeatView}
+use Rattle.run_workers.proofs.Names.{Adds, AreQuiet, Turn, visit_with, Sent, SeatView, HintStep}
+use Rattle.run_workers.proofs.Names.{Journal, grown, Chosen, At, Dropped, Setup, packet_hash}
+use Rattle.run_workers.proofs.Names.{cpus_in, queues_in, HasLanesBelow, IsServer, Server}
+use Rattle.run_workers.proofs.Names.{quiet_steps_stay}
 use Rattle.run_workers.proofs.Hands.ChoiceLemmas.{class_stays, told_below}
 use Rattle.run_workers.proofs.Hands.DeltaLemmas.{adds_both, holds_both, leaves_both, quiet_both}
-use Rattle.board_api.proofs.AddedSteps.{quiet_steps_stay}
 use Rattle.run_workers.proofs.Hands.PutLemmas.{PutMade}
 use Rattle.run_workers.proofs.Hands.ServerLemmas.{quiet_place}
 use Rattle.run_workers.proofs.Hands.VisitLemmas.{AreIdle, HeadSteps, head_steps, idle_both}

@@ -1,29 +1,17 @@
 -- What an application's calls leave as it was.
-use Rattle.std.proofs.Common.{◌≡◌, ◌⊎◌, inl, inr, ℕ, Bool, true, false, List, [], ◌∷◌}
-use Rattle.std.proofs.Common.{Option, None, Some, IfSome, refl, sym, ap, subst, ◌∙◌, append_assoc}
-use Rattle.linearization.specs.Orders.{step_by}
-use Rattle.linearization.specs.Seats.{SeatView}
-use Rattle.steer_base.specs.Journals.{Journal}
-use Rattle.history.specs.declared.arrival.Arrival.{Arrival}
-use Rattle.history.specs.declared.sock_write.SockWrite.{SockWrite}
-use Rattle.hint_words.specs.declared.step.HintStep.{HintStep}
-use Rattle.hop_rule.specs.declared.sizes.BoardSizes.{BoardSizes}
-use Rattle.hop_rule.specs.declared.step.BoardStep.{BoardStep}
-use Rattle.hop_rule.specs.declared.step.BoardStep.TheVariants.{Gate}
-use Rattle.hop_rule.specs.declared.step.GateStep.TheVariants.{Entered, Left, Read, Turned}
 use Rattle.hop_rule.specs.Owns.{puts_of}
-use Rattle.board_api.specs.Seats.{BoardSeatView, Adds}
-use Rattle.hop_delivery.specs.Orders.Turns.{Explained, visit_with, turn_put}
-use Rattle.hop_delivery.proofs.Orders.TurnLemmas.{explained_more, explained_turn}
-use Rattle.steer_model.specs.State.Setup.{Setup}
-use Rattle.run_workers.specs.Hands.Deltas.{LeavesLane}
-use Rattle.run_workers.specs.Hands.Drains.{IsDrain}
+use Rattle.hop_delivery.specs.Orders.Turns.{turn_put}
+use Rattle.hop_delivery.proofs.Orders.TurnLemmas.{explained_turn}
 use Rattle.run_workers.specs.Hands.Laws.{ApplicationsExplain, ApplicationsLeaveDrains}
-use Rattle.run_workers.specs.Hands.Laws.{ApplicationsStay, StaysApplication}
-use Rattle.run_workers.specs.Hands.Servers.{BacksOut, LeavesInbox, Queued, RepliesOrKeeps}
-use Rattle.run_workers.specs.Hands.Servers.{TakesNext, TakesOrLeaves, Writes}
-use Rattle.run_workers.specs.declared.drain.Drain.{Drain}
-use Rattle.run_workers.specs.declared.server.Server.{Server}
+use Rattle.run_workers.specs.Hands.Laws.{ApplicationsStay}
+use Rattle.run_workers.proofs.Names.{◌≡◌, ◌⊎◌, inl, inr, ℕ, Bool, true, false, List, [], ◌∷◌}
+use Rattle.run_workers.proofs.Names.{Option, None, Some, IfSome, refl, sym, ap, subst, ◌∙◌}
+use Rattle.run_workers.proofs.Names.{append_assoc, step_by, SeatView, Journal, Arrival, SockWrite}
+use Rattle.run_workers.proofs.Names.{HintStep, BoardSizes, BoardStep, Gate, Entered, Left, Read}
+use Rattle.run_workers.proofs.Names.{Turned, BoardSeatView, Adds, Explained, visit_with}
+use Rattle.run_workers.proofs.Names.{explained_more, Setup, LeavesLane, IsDrain, StaysApplication}
+use Rattle.run_workers.proofs.Names.{BacksOut, LeavesInbox, Queued, RepliesOrKeeps, TakesNext}
+use Rattle.run_workers.proofs.Names.{TakesOrLeaves, Writes, Drain, Server}
 use Rattle.run_workers.proofs.Hands.DrainLemmas.{stays_drain}
 use Rattle.run_workers.proofs.Hands.DeltaLemmas.{without_reasons}
 use Rattle.run_workers.proofs.Hands.WaitLemmas.{leaves_at_board, leaves_there}

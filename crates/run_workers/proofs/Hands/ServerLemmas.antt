@@ -1,34 +1,20 @@
 -- What an application's seat does at its inbox.
-use Rattle.std.proofs.Common.{◌≡◌, inl, inr, ℕ, ◌+◌, ◌≤◌, ◌<◌, true, List, [], ◌∷◌, ◌++◌, Option}
-use Rattle.std.proofs.Common.{None, Some, IfSome, refl, sym, ap, subst, ◌∙◌, length, length-append}
-use Rattle.std.proofs.Common.{arith}
-use Rattle.std.proofs.lemmas.List.Elements.{Contains-append_left, Contains-append_right}
-use Rattle.std.proofs.lemmas.List.Elements.{Contains-push}
-use Rattle.linearization.specs.Seats.{SeatView}
-use Rattle.steer_base.specs.Counters.{number}
-use Rattle.steer_base.specs.Journals.{Journal}
-use Rattle.history.specs.declared.sock_write.SockWrite.{SockWrite}
-use Rattle.hint_words.specs.declared.step.HintStep.{HintStep}
-use Rattle.hop_rule.specs.Boards.{gate_steps, out_slot}
-use Rattle.hop_rule.specs.Gates.{closed, visit}
-use Rattle.hop_rule.specs.OutLanes.{OutList}
-use Rattle.hop_rule.specs.declared.sizes.BoardSizes.{BoardSizes}
-use Rattle.hop_rule.specs.declared.step.BoardStep.{BoardStep}
-use Rattle.hop_rule.specs.declared.step.BoardStep.TheVariants.{Lane, LaneIn, LaneOut, OutCounted}
-use Rattle.hop_rule.specs.declared.step.LaneStep.TheVariants.{OutFreed, OutHeld, OutMissed}
-use Rattle.board_api.specs.Calls.Results.{BackTells, ReadTells, TailTells, Took}
-use Rattle.board_api.specs.Seats.{BoardSeatView, Adds}
+use Rattle.hop_rule.specs.declared.step.BoardStep.TheVariants.{LaneOut, OutCounted}
+use Rattle.hop_rule.specs.declared.step.LaneStep.TheVariants.{OutMissed}
+use Rattle.board_api.specs.Calls.Results.{ReadTells, TailTells}
 use Rattle.board_api.specs.StepWords.{is_odd}
-use Rattle.board_api.specs.declared.held_lane.HeldLane.{HeldLane}
 use Rattle.board_api.specs.declared.held_lane.HeldLane.TheVariants as held
 use Rattle.board_api.specs.declared.held_lane.LaneId.TheVariants as id
-use Rattle.board_api.proofs.AddedSteps.{quiet_steps_stay}
-use Rattle.hop_delivery.specs.Orders.Turns.{AreQuiet}
-use Rattle.steer_model.specs.State.Setup.{Setup}
-use Rattle.run_workers.specs.Hands.Deltas.{OnlyServes, Serves, no_lane}
-use Rattle.run_workers.specs.Hands.Servers.{FoundAt, IsServer, LooksInVain, Notes, Peeks, Writes}
-use Rattle.run_workers.specs.Hands.Servers.{in_hand}
-use Rattle.run_workers.specs.declared.server.Server.{Server}
+use Rattle.run_workers.specs.Hands.Servers.{FoundAt, LooksInVain, Notes, in_hand}
+use Rattle.run_workers.proofs.Names.{◌≡◌, inl, inr, ℕ, ◌+◌, ◌≤◌, ◌<◌, true, List, [], ◌∷◌, ◌++◌}
+use Rattle.run_workers.proofs.Names.{Option, None, Some, IfSome, refl, sym, ap, subst, ◌∙◌, length}
+use Rattle.run_workers.proofs.Names.{length-append, arith, Contains-append_left}
+use Rattle.run_workers.proofs.Names.{Contains-append_right, Contains-push, SeatView, number}
+use Rattle.run_workers.proofs.Names.{Journal, SockWrite, HintStep, gate_steps, out_slot, closed}
+use Rattle.run_workers.proofs.Names.{visit, OutList, BoardSizes, BoardStep, Lane, LaneIn, OutFreed}
+use Rattle.run_workers.proofs.Names.{OutHeld, BackTells, Took, BoardSeatView, Adds, HeldLane}
+use Rattle.run_workers.proofs.Names.{quiet_steps_stay, AreQuiet, Setup, OnlyServes, Serves, no_lane}
+use Rattle.run_workers.proofs.Names.{IsServer, Peeks, Writes, Server}
 use Rattle.run_workers.proofs.Hands.DeltaLemmas.{adds_both, leaves_each, out_held_steps, serve_both}
 use Rattle.run_workers.proofs.Hands.DeltaLemmas.{serve_out_back, serve_out_missed, stays}
 

@@ -1,22 +1,12 @@
 -- What a poll leaves as it was.
-use Rattle.std.proofs.Common.{◌≡◌, ◌⊎◌, inl, inr, ℕ, ◌+◌, ◌≤◌, [], ◌∷◌, ◌++◌, Option, None}
-use Rattle.std.proofs.Common.{Some, ap, ◌∙◌, length, arith}
 use Rattle.std.proofs.lemmas.List.{length-append}
-use Rattle.linearization.specs.Seats.{SeatView}
-use Rattle.steer_base.specs.declared.choice.Choice.{Choice}
-use Rattle.steer_base.specs.declared.filter.Filter.{Filter}
-use Rattle.steer_base.specs.declared.put.Put.{Put}
-use Rattle.steer_base.specs.declared.put.Put.TheVariants.{At, Dropped}
-use Rattle.hint_words.specs.declared.step.HintStep.{HintStep}
-use Rattle.board_api.specs.Seats.{BoardSeatView}
-use Rattle.steer_base.specs.Arrivals.{filter_place}
-use Rattle.steer_model.specs.State.Setup.{Setup, packet_hash}
-use Rattle.steer_model.specs.Steps.Pollers.{filter_for}
 use Rattle.run_workers.specs.Hands.Laws.{PollsStay, Stays}
-use Rattle.run_workers.specs.Hands.Pollers.{AsksFilter, FindsClosed, LooksUp, Polls, SteersHand}
-use Rattle.run_workers.specs.Hands.Pollers.{StoresFilter, Waits, count_after}
-use Rattle.run_workers.specs.Tally.{dropped_by}
-use Rattle.run_workers.specs.declared.poller.Poller.{Poller}
+use Rattle.run_workers.proofs.Names.{◌≡◌, ◌⊎◌, inl, inr, ℕ, ◌+◌, ◌≤◌, [], ◌∷◌, ◌++◌, Option, None}
+use Rattle.run_workers.proofs.Names.{Some, ap, ◌∙◌, length, arith, SeatView, Choice, Filter, Put}
+use Rattle.run_workers.proofs.Names.{At, Dropped, HintStep, BoardSeatView, filter_place, Setup}
+use Rattle.run_workers.proofs.Names.{packet_hash, filter_for, AsksFilter, FindsClosed, LooksUp}
+use Rattle.run_workers.proofs.Names.{Polls, SteersHand, StoresFilter, Waits, count_after}
+use Rattle.run_workers.proofs.Names.{dropped_by, Poller}
 use Rattle.run_workers.proofs.Hands.WaitLemmas.{waits_at_board, waits_there}
 
 abbrev Hint : Type 0

@@ -1,25 +1,18 @@
 -- Where a drain stops.
-use Rattle.std.proofs.Common.{◌≡◌, inl, inr, ℕ, ◌<◌, Bool, true, false, Option}
-use Rattle.std.proofs.Common.{None, Some, [], ◌∷◌, refl, sym, ap, subst, ◌∙◌, arith, ◌||◌}
 use Rattle.std.specs.Prelude.{IsSome}
 use Rattle.std.specs.Option.{is_some}
-use Rattle.steer_base.specs.Counters.{number}
-use Rattle.hop_rule.specs.Boards.{out_slot}
-use Rattle.hop_rule.specs.declared.sizes.BoardSizes.{BoardSizes}
-use Rattle.hop_rule.specs.declared.step.BoardStep.TheVariants.{Lane, LaneIn}
 use Rattle.hop_rule.specs.declared.step.Change.TheVariants.{Nothing}
-use Rattle.hop_rule.specs.declared.step.LaneStep.TheVariants.{OutFreed}
 use Rattle.board_api.specs.Calls.HeldLanes.{room_in}
-use Rattle.board_api.specs.Calls.Results.{BackTells, PullTells, Took, released}
-use Rattle.board_api.specs.Seats.{BoardSeatView, Adds}
+use Rattle.board_api.specs.Calls.Results.{PullTells}
 use Rattle.board_api.specs.declared.answers.Pull.TheVariants as pull
-use Rattle.board_api.specs.declared.held_lane.HeldLane.{HeldLane}
 use Rattle.board_api.specs.declared.held_lane.HeldLane.TheVariants as held
 use Rattle.board_api.specs.declared.held_lane.LaneId.TheVariants as id
-use Rattle.steer_model.specs.State.Setup.{Setup}
-use Rattle.run_workers.specs.Hands.Deltas.{Serves, this_lane}
 use Rattle.run_workers.specs.Hands.Drains.{FindsNoRoom, FindsNone, Moves, Stops, StopsAt, StopsHere}
-use Rattle.run_workers.specs.declared.drain.Drain.{Drain}
+use Rattle.run_workers.proofs.Names.{◌≡◌, inl, inr, ℕ, ◌<◌, Bool, true, false, Option, None, Some}
+use Rattle.run_workers.proofs.Names.{[], ◌∷◌, refl, sym, ap, subst, ◌∙◌, arith, ◌||◌, number}
+use Rattle.run_workers.proofs.Names.{out_slot, BoardSizes, Lane, LaneIn, OutFreed, BackTells, Took}
+use Rattle.run_workers.proofs.Names.{released, BoardSeatView, Adds, HeldLane, Setup, Serves}
+use Rattle.run_workers.proofs.Names.{this_lane, Drain}
 use Rattle.run_workers.proofs.Hands.DeltaLemmas.{serves_next}
 
 -- ---- looks that find nothing

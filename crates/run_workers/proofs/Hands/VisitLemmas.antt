@@ -1,36 +1,22 @@
 -- A visit in which a packet was steered is a turn.
-use Rattle.std.proofs.Common.{◌≡◌, ℕ, List, [], ◌∷◌, ◌++◌, Option, None, Some, IfSome, refl, sym}
-use Rattle.std.proofs.Common.{ap, ◌⊎◌, inl, inr, false, subst, ◌∙◌, unwrap_or, length, append_assoc}
-use Rattle.std.proofs.lemmas.List.Elements.{Contains-append_left, Contains-append_right}
-use Rattle.std.proofs.lemmas.List.Elements.{Contains-push}
-use Rattle.linearization.specs.Orders.{step_by}
-use Rattle.linearization.specs.Seats.{SeatView}
-use Rattle.steer_base.specs.Sets.{has}
-use Rattle.steer_base.specs.declared.choice.Choice.{Choice}
-use Rattle.steer_base.specs.declared.choice.Chosen.{Chosen}
-use Rattle.dev_flow_table.specs.Folds.{table_after}
-use Rattle.dev_flow_table.specs.Tables.{Table, weighed}
-use Rattle.hint_words.specs.declared.step.HintStep.{HintStep}
-use Rattle.hop_rule.specs.Boards.{gate_steps}
-use Rattle.hop_rule.specs.Gates.{closed, visit}
-use Rattle.hop_rule.specs.declared.step.BoardStep.{BoardStep}
-use Rattle.hop_rule.specs.declared.step.BoardStep.TheVariants.{Gate, Weighed}
-use Rattle.hop_rule.specs.declared.step.GateStep.TheVariants.{Entered, Left, Turned}
-use Rattle.board_api.specs.Calls.Rights.{HasOpen, IsInside}
-use Rattle.board_api.specs.Seats.{BoardSeatView, Adds}
+use Rattle.hop_rule.specs.declared.step.BoardStep.TheVariants.{Weighed}
 use Rattle.board_api.specs.StepWords.{is_marked}
-use Rattle.board_api.proofs.AddedSteps.{quiet_steps_stay}
-use Rattle.hop_delivery.specs.Orders.Turns.{AreQuiet, Explained, Turn, turn_put, visit_with}
-use Rattle.hop_delivery.proofs.Orders.TurnLemmas.{explained_more, explained_turn}
-use Rattle.steer_model.specs.State.Setup.{Setup, packet_hash}
-use Rattle.run_workers.specs.Hands.Deltas.{HoldsNoMore, LeavesLane}
-use Rattle.run_workers.specs.Hands.Drains.{IsDrain}
+use Rattle.hop_delivery.specs.Orders.Turns.{turn_put}
+use Rattle.hop_delivery.proofs.Orders.TurnLemmas.{explained_turn}
 use Rattle.run_workers.specs.Hands.Laws.{PollsLeaveDrains, ServesExplain, VisitsExplain}
-use Rattle.run_workers.specs.Hands.Pollers.{FindsClosed, SteersHand, Waits, LoadedHead, LoadsHead}
-use Rattle.run_workers.specs.Hands.Pollers.{Steers, Visits, class_read, desired_read, online_read}
-use Rattle.run_workers.specs.Hands.Pollers.{put_of, read_steps, refreshed}
-use Rattle.run_workers.specs.declared.drain.Drain.{Drain}
+use Rattle.run_workers.specs.Hands.Pollers.{LoadedHead, LoadsHead, Steers, class_read, desired_read}
+use Rattle.run_workers.specs.Hands.Pollers.{online_read, put_of, read_steps}
 use Rattle.run_workers.specs.declared.poller.Reading.{Reading}
+use Rattle.run_workers.proofs.Names.{◌≡◌, ℕ, List, [], ◌∷◌, ◌++◌, Option, None, Some, IfSome, refl}
+use Rattle.run_workers.proofs.Names.{sym, ap, ◌⊎◌, inl, inr, false, subst, ◌∙◌, unwrap_or, length}
+use Rattle.run_workers.proofs.Names.{append_assoc, Contains-append_left, Contains-append_right}
+use Rattle.run_workers.proofs.Names.{Contains-push, step_by, SeatView, has, Choice, Chosen}
+use Rattle.run_workers.proofs.Names.{table_after, Table, weighed, HintStep, gate_steps, closed}
+use Rattle.run_workers.proofs.Names.{visit, BoardStep, Gate, Entered, Left, Turned, HasOpen}
+use Rattle.run_workers.proofs.Names.{IsInside, BoardSeatView, Adds, quiet_steps_stay, AreQuiet}
+use Rattle.run_workers.proofs.Names.{Explained, Turn, visit_with, explained_more, Setup}
+use Rattle.run_workers.proofs.Names.{packet_hash, HoldsNoMore, LeavesLane, IsDrain, FindsClosed}
+use Rattle.run_workers.proofs.Names.{SteersHand, Waits, Visits, refreshed, Drain}
 use Rattle.run_workers.proofs.Hands.ChoiceLemmas.{class_stays}
 use Rattle.run_workers.proofs.Hands.DrainLemmas.{stays_drain}
 use Rattle.run_workers.proofs.Hands.DeltaLemmas.{adds_both, holds_both, leaves_both, quiet_both}

@@ -1,15 +1,13 @@
 -- What a seat did where a poller waits or an application leaves its inbox.
-use Rattle.std.proofs.Common.{◌≡◌, ◌≢◌, ◌⊎◌, ◌==◌, inl, inr, ℕ, zero, suc, Option, None, Some}
-use Rattle.std.proofs.Common.{Bool, true, false, not, refl, sym, ap, ◌∙◌, length, arith}
+use Rattle.std.proofs.Common.{not}
 use Rattle.std.proofs.lemmas.Bool.{ne_eqb}
-use Rattle.linearization.specs.Seats.{SeatView}
-use Rattle.hint_words.specs.declared.step.HintStep.{HintStep}
-use Rattle.hop_rule.specs.declared.sizes.BoardSizes.{BoardSizes}
-use Rattle.board_api.specs.Seats.{BoardSeatView}
-use Rattle.run_workers.specs.Hands.Pollers.{FindsAnnounced, FindsClosed, LoadsQueue, Waits}
-use Rattle.run_workers.specs.Hands.Servers.{BacksOut, HasNoNext, LeavesInbox, LoadsMark, Peeks}
-use Rattle.run_workers.specs.declared.poller.Poller.{Poller}
-use Rattle.run_workers.specs.declared.server.Server.{Server}
+use Rattle.run_workers.specs.Hands.Pollers.{FindsAnnounced}
+use Rattle.run_workers.specs.Hands.Servers.{LoadsMark}
+use Rattle.run_workers.proofs.Names.{◌≡◌, ◌≢◌, ◌⊎◌, ◌==◌, inl, inr, ℕ, zero, suc, Option, None}
+use Rattle.run_workers.proofs.Names.{Some, Bool, true, false, refl, sym, ap, ◌∙◌, length, arith}
+use Rattle.run_workers.proofs.Names.{SeatView, HintStep, BoardSizes, BoardSeatView, FindsClosed}
+use Rattle.run_workers.proofs.Names.{LoadsQueue, Waits, BacksOut, HasNoNext, LeavesInbox, Peeks}
+use Rattle.run_workers.proofs.Names.{Poller, Server}
 
 abbrev Hint : Type 0
 Hint = SeatView HintStep

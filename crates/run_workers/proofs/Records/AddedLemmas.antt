@@ -1,21 +1,10 @@
 -- The calls of a hand add steps to the lists of its seats.
-use Rattle.std.proofs.Common.{◌≡◌, ◌⊎◌, inl, inr, ℕ, ◌*◌, Bool, true, false, [], ◌∷◌, Some}
-use Rattle.linearization.specs.Seats.{SeatView}
-use Rattle.history.specs.declared.arrival.Arrival.{Arrival}
 use Rattle.std.specs.Prelude.{List, length}
-use Rattle.hint_words.specs.declared.step.HintStep.{HintStep}
-use Rattle.hop_rule.specs.declared.sizes.BoardSizes.{BoardSizes}
-use Rattle.hop_rule.specs.declared.step.BoardStep.TheVariants.{Gate}
-use Rattle.hop_rule.specs.declared.step.GateStep.TheVariants.{Entered, Left, Read}
-use Rattle.board_api.specs.Seats.{BoardSeatView}
-use Rattle.hop_delivery.specs.Orders.Turns.{visit_with}
-use Rattle.steer_model.specs.State.Setup.{Setup}
-use Rattle.run_workers.specs.Hands.Pollers.{SteersHand, Waits}
-use Rattle.run_workers.specs.Hands.Servers.{RepliesOrKeeps, TakesOrLeaves}
-use Rattle.run_workers.specs.declared.poller.Poller.{Poller}
-use Rattle.run_workers.specs.declared.server.Server.{Server}
-use Rattle.run_workers.specs.Records.Growth.{Grows}
 use Rattle.run_workers.specs.Records.ReplyingLaws.{CallsAddSteps}
+use Rattle.run_workers.proofs.Names.{◌≡◌, ◌⊎◌, inl, inr, ℕ, ◌*◌, Bool, true, false, [], ◌∷◌, Some}
+use Rattle.run_workers.proofs.Names.{SeatView, Arrival, HintStep, BoardSizes, Gate, Entered, Left}
+use Rattle.run_workers.proofs.Names.{Read, BoardSeatView, visit_with, Setup, SteersHand, Waits}
+use Rattle.run_workers.proofs.Names.{RepliesOrKeeps, TakesOrLeaves, Poller, Server, Grows}
 use Rattle.run_workers.proofs.Records.HeldLemmas.{writes_grow}
 use Rattle.run_workers.proofs.Records.HintLemmas.{polls_keep_hints, steps_one}
 use Rattle.run_workers.proofs.Records.ListLemmas.{grows_both}

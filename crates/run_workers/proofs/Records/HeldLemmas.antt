@@ -1,27 +1,17 @@
 -- What an application has held, read, loaded and written stays while its seats go on.
-use Rattle.std.proofs.Common.{◌≡◌, ◌⊎◌, inl, inr, ℕ, ◌*◌, List, [], ◌∷◌, ◌++◌, Option, None, Some}
-use Rattle.std.proofs.Common.{◌+◌, length, map, sym, refl, ap, ◌∙◌, subst, append_assoc}
-use Rattle.linearization.specs.Orders.{StepBy, step_by, steps_of}
-use Rattle.linearization.specs.Seats.{SeatView}
-use Rattle.steer_base.specs.Choices.{class_of}
-use Rattle.steer_base.specs.Journals.{Journal}
-use Rattle.history.specs.declared.arrival.Arrival.{Arrival}
-use Rattle.history.specs.declared.sock_write.SockWrite.{SockWrite}
-use Rattle.hint_words.specs.declared.step.HintStep.{HintStep}
-use Rattle.hint_words.specs.declared.step.HintStep.TheVariants.{Load}
-use Rattle.hop_rule.specs.declared.step.BoardStep.{BoardStep}
-use Rattle.hop_rule.proofs.Lists.{none-some}
-use Rattle.steer_model.specs.State.Setup.{Setup, packet_hash}
-use Rattle.run_words.specs.Values.{place_in, socket_size_in}
-use Rattle.run_words.specs.Lists.{oldest_first}
+use Rattle.run_words.specs.Values.{place_in}
 use Rattle.run_words.specs.Numbers.{hint_number}
 use Rattle.run_words.specs.declared.hint_word.HintWord.TheVariants as hint
 use Rattle.run_words.specs.declared.hint_word.TheConstants.{STAND_WORDS}
-use Rattle.run_workers.specs.Hands.Servers.{Queued, Stands, Writes, queue_by}
-use Rattle.run_workers.specs.Records.Growth.{Grows}
+use Rattle.run_workers.specs.Hands.Servers.{Stands, queue_by}
 use Rattle.run_workers.specs.Records.Replying.{HasWrittenAll, HasCome, HasFound, HasReadInside}
 use Rattle.run_workers.specs.Records.Replying.{HasStood, HasWritten}
-use Rattle.run_workers.specs.Records.Words.{Note}
+use Rattle.run_workers.proofs.Names.{◌≡◌, ◌⊎◌, inl, inr, ℕ, ◌*◌, List, [], ◌∷◌, ◌++◌, Option, None}
+use Rattle.run_workers.proofs.Names.{Some, ◌+◌, length, map, sym, refl, ap, ◌∙◌, subst}
+use Rattle.run_workers.proofs.Names.{append_assoc, StepBy, step_by, steps_of, SeatView, class_of}
+use Rattle.run_workers.proofs.Names.{Journal, Arrival, SockWrite, HintStep, Load, BoardStep}
+use Rattle.run_workers.proofs.Names.{none-some, Setup, packet_hash, socket_size_in, oldest_first}
+use Rattle.run_workers.proofs.Names.{Queued, Writes, Grows, Note}
 use Rattle.run_workers.proofs.Records.ListLemmas.{append_none, contains_first, contains_later}
 use Rattle.run_workers.proofs.Records.ListLemmas.{grows_both, own_turn}
 use Rattle.run_workers.proofs.Records.HintLemmas.{steps_one, steps_same}

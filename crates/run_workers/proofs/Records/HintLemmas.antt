@@ -1,29 +1,17 @@
 -- The steps of a seat at the hint words stay while its actors go on.
-use Rattle.std.proofs.Common.{◌≡◌, ◌⊎◌, inl, inr, ℕ, ◌<◌, List, [], ◌∷◌, Option, None, Some}
-use Rattle.std.proofs.Common.{◌≢◌, IfSome, length, refl, sym, ap, ◌∙◌, subst, arith}
-use Rattle.linearization.specs.Seats.{SeatView}
-use Rattle.steer_base.specs.Arrivals.{filter_place}
-use Rattle.steer_base.specs.declared.choice.Choice.{Choice}
-use Rattle.steer_base.specs.declared.filter.Filter.{Filter}
-use Rattle.steer_base.specs.declared.put.Put.{Put}
-use Rattle.steer_base.specs.declared.put.Put.TheVariants.{At, Dropped}
-use Rattle.hint_words.specs.declared.step.HintStep.{HintStep}
-use Rattle.hint_words.specs.declared.step.HintStep.TheVariants.{Load}
-use Rattle.hop_rule.specs.Moments.{nth_step}
-use Rattle.hop_rule.specs.declared.sizes.BoardSizes.{BoardSizes}
-use Rattle.hop_rule.proofs.Moments.{nth-inside, nth-last}
-use Rattle.board_api.specs.Seats.{BoardSeatView}
-use Rattle.steer_model.specs.State.Setup.{Setup, packet_hash}
-use Rattle.steer_model.specs.Steps.Pollers.{filter_for}
+use Rattle.hop_rule.proofs.Moments.{nth-last}
 use Rattle.run_words.specs.HintViews.{after_step}
-use Rattle.run_workers.specs.Hands.Pollers.{AsksFilter, FindsClosed, LoadsQueue, LooksUp, Polls}
-use Rattle.run_workers.specs.Hands.Pollers.{SteersHand, StoresFilter, Waits}
-use Rattle.run_workers.specs.Hands.Servers.{BacksOut, HasNoNext, LeavesInbox, LoadsMark, Peeks}
-use Rattle.run_workers.specs.declared.poller.Poller.{Poller}
-use Rattle.run_workers.specs.declared.server.Server.{Server}
+use Rattle.run_workers.specs.Hands.Servers.{LoadsMark}
 use Rattle.run_workers.specs.Records.Polling.{HasLookedUp}
-use Rattle.run_workers.specs.Records.Growth.{Grows}
 use Rattle.run_workers.specs.Records.Words.{FoundBefore}
+use Rattle.run_workers.proofs.Names.{◌≡◌, ◌⊎◌, inl, inr, ℕ, ◌<◌, List, [], ◌∷◌, Option, None, Some}
+use Rattle.run_workers.proofs.Names.{◌≢◌, IfSome, length, refl, sym, ap, ◌∙◌, subst, arith}
+use Rattle.run_workers.proofs.Names.{SeatView, filter_place, Choice, Filter, Put, At, Dropped}
+use Rattle.run_workers.proofs.Names.{HintStep, Load, nth_step, BoardSizes, nth-inside}
+use Rattle.run_workers.proofs.Names.{BoardSeatView, Setup, packet_hash, filter_for, AsksFilter}
+use Rattle.run_workers.proofs.Names.{FindsClosed, LoadsQueue, LooksUp, Polls, SteersHand}
+use Rattle.run_workers.proofs.Names.{StoresFilter, Waits, BacksOut, HasNoNext, LeavesInbox, Peeks}
+use Rattle.run_workers.proofs.Names.{Poller, Server, Grows}
 use Rattle.run_workers.proofs.Records.ListLemmas.{grown_length, grows_both, nth_later}
 
 abbrev Hint : Type 0

@@ -1,19 +1,12 @@
 -- Lists of turns with one more, and lists of steps that stay.
-use Rattle.std.proofs.Common.{◌≡◌, ◌⊎◌, inl, inr, ℕ, zero, suc, List, [], ◌∷◌, ◌++◌}
 use Rattle.std.specs.Prelude.{slice_get}
-use Rattle.std.proofs.Common.{if◌then◌else◌, Some, append_assoc, length, map, sym, refl, ap, ◌∙◌}
-use Rattle.std.proofs.Common.{◌≤◌, subst, arith, length-append}
-use Rattle.std.specs.List.{Contains}
-use Rattle.std.proofs.lemmas.List.{map-append}
-use Rattle.std.proofs.lemmas.List.Elements.{Contains-append_right}
-use Rattle.linearization.specs.Orders.{StepBy, step_by, steps_of}
-use Rattle.linearization.proofs.ListLemmas.{if_same}
-use Rattle.hop_rule.specs.Moments.{nth_step}
-use Rattle.hop_rule.proofs.Lists.{none-some, some-is}
-use Rattle.hop_rule.proofs.Moments.{nth-inside, nth-old}
-use Rattle.run_words.specs.Lists.{oldest_first}
-use Rattle.run_workers.specs.Records.Growth.{Grows}
+use Rattle.hop_rule.proofs.Moments.{nth-old}
 use Rattle.run_workers.specs.Records.PollingLaws.{OtherTurnsStay}
+use Rattle.run_workers.proofs.Names.{◌≡◌, ◌⊎◌, inl, inr, ℕ, zero, suc, List, [], ◌∷◌, ◌++◌}
+use Rattle.run_workers.proofs.Names.{if◌then◌else◌, Some, append_assoc, length, map, sym, refl, ap}
+use Rattle.run_workers.proofs.Names.{◌∙◌, ◌≤◌, subst, arith, length-append, Contains, map-append}
+use Rattle.run_workers.proofs.Names.{Contains-append_right, StepBy, step_by, steps_of, if_same}
+use Rattle.run_workers.proofs.Names.{nth_step, none-some, some-is, nth-inside, oldest_first, Grows}
 
 module _ {A : Type 0} where
   pub contains_first : (x : A) (xs : List A) → Contains (x ∷ xs) x

@@ -1,39 +1,27 @@
 -- A poller's record of its turns, after a poll and beside other actors.
-use Rattle.std.proofs.Common.{is_some, ◌≡◌, ◌⊎◌, inl, inr, ℕ, ◌<◌, List, [], ◌∷◌, ◌++◌, Bool, true}
-use Rattle.std.proofs.Common.{false, Option, None, Some, IfSome, if◌then◌else◌, length, map, sym}
-use Rattle.std.proofs.Common.{refl, ap, ◌∙◌, subst, arith}
+use Rattle.std.proofs.Common.{is_some}
 use Rattle.std.specs.Prelude.{nat_lt}
 use Rattle.std.specs.List.{filter_map}
 use Rattle.std.proofs.lemmas.Bool.Decides.{nat_tests}
-use Rattle.std.proofs.lemmas.List.{map-append}
-use Rattle.std.proofs.lemmas.List.Elements.{All-cons, All-nil, filter_map-append}
+use Rattle.std.proofs.lemmas.List.Elements.{All-nil}
 use Rattle.rtrb.specs.Ring.{received}
-use Rattle.linearization.specs.Orders.{StepBy, step_by, steps_of}
-use Rattle.linearization.specs.Seats.{SeatView}
-use Rattle.steer_base.specs.Journals.{grown}
-use Rattle.steer_base.specs.declared.choice.Chosen.{Chosen}
-use Rattle.dev_flow_table.specs.Tables.{Table}
-use Rattle.hint_words.specs.declared.step.HintStep.{HintStep}
-use Rattle.hop_rule.proofs.Moments.{nth-inside}
-use Rattle.board_api.specs.Seats.{BoardSeatView}
-use Rattle.hop_rule.specs.declared.step.BoardStep.TheVariants.{Gate}
-use Rattle.hop_rule.specs.declared.step.GateStep.TheVariants.{Left, Turned}
-use Rattle.hop_delivery.specs.Orders.Turns.{Explained, Turn}
-use Rattle.hop_delivery.proofs.Orders.TurnLemmas.{explained_more}
-use Rattle.steer_model.specs.State.Setup.{Setup, packet_hash}
-use Rattle.run_words.specs.Values.{socket_size_in}
-use Rattle.run_workers.specs.Hands.Pollers.{FindsClosed, IsPoller, LoadsQueue, SteersHand, Takes}
-use Rattle.run_workers.specs.Hands.Pollers.{Visits, Waits, class_read}
-use Rattle.run_workers.specs.Hands.Pollers.{count_after, refreshed, socket_entry}
-use Rattle.run_workers.specs.declared.poller.Poller.{Poller}
+use Rattle.run_workers.specs.Hands.Pollers.{Takes, class_read, socket_entry}
+use Rattle.run_workers.proofs.Names.{◌≡◌, ◌⊎◌, inl, inr, ℕ, ◌<◌, List, [], ◌∷◌, ◌++◌, Bool, true}
+use Rattle.run_workers.proofs.Names.{false, Option, None, Some, IfSome, if◌then◌else◌, length, map}
+use Rattle.run_workers.proofs.Names.{sym, refl, ap, ◌∙◌, subst, arith, map-append, All-cons}
+use Rattle.run_workers.proofs.Names.{filter_map-append, StepBy, step_by, steps_of, SeatView, grown}
+use Rattle.run_workers.proofs.Names.{Chosen, Table, HintStep, nth-inside, BoardSeatView, Gate, Left}
+use Rattle.run_workers.proofs.Names.{Turned, Explained, Turn, explained_more, Setup, packet_hash}
+use Rattle.run_workers.proofs.Names.{socket_size_in, FindsClosed, IsPoller, LoadsQueue, SteersHand}
+use Rattle.run_workers.proofs.Names.{Visits, Waits, count_after, refreshed, Poller, Grows}
+use Rattle.run_workers.proofs.Names.{TurnsGrow, Mark}
 use Rattle.run_workers.proofs.Hands.VisitLemmas.{visits_explain}
-use Rattle.run_workers.specs.Records.Growth.{Grows, TurnsGrow, held}
+use Rattle.run_workers.specs.Records.Growth.{held}
 use Rattle.run_workers.specs.Records.Polling.{AllPolled, HasLookedUp, IsLastLook, IsLastMark}
 use Rattle.run_workers.specs.Records.Polling.{IsPolled, IsPolling, PolledTurn, choices_in}
 use Rattle.run_workers.specs.Records.Polling.{last_flows, packet_of_number, ring_packets}
 use Rattle.run_workers.specs.Records.Polling.{polled_table}
 use Rattle.run_workers.specs.Records.PollingLaws.{PollersBegin, PollersGoOn, PollersStay, PollsOn}
-use Rattle.run_workers.specs.Records.Words.{Mark}
 use Rattle.run_workers.proofs.Records.StoringLemmas.{at_most_stores, visit_stores}
 use Rattle.run_workers.proofs.Records.HintLemmas.{asks_stay, done_last, look_at, look_below}
 use Rattle.run_workers.proofs.Records.HintLemmas.{load_grow, looked_stays, looked_up, looks_stay}

@@ -1,42 +1,24 @@
 -- An application's record of its packets and turns, after its calls and beside other actors.
-use Rattle.std.proofs.Common.{◌≡◌, ◌⊎◌, inl, inr, ℕ, ◌*◌, ◌<◌, true, false, List, [], ◌∷◌}
-use Rattle.std.proofs.Common.{◌++◌, Option, None, Some, IfSome, length, map, sym, refl, ap, ◌∙◌}
-use Rattle.std.proofs.Common.{subst, arith}
 use Rattle.std.specs.Prelude.{slice_get}
-use Rattle.std.specs.List.{Contains}
-use Rattle.std.proofs.lemmas.List.Elements.{Contains-append_left}
-use Rattle.std.proofs.lemmas.List.{length-map, map-append}
-use Rattle.linearization.specs.Orders.{StepBy, step_by, steps_of}
-use Rattle.linearization.specs.Seats.{SeatView}
-use Rattle.steer_base.specs.Journals.{grown}
-use Rattle.history.specs.declared.arrival.Arrival.{Arrival}
-use Rattle.history.specs.declared.sent.Sent.{Sent}
-use Rattle.hint_words.specs.declared.step.HintStep.{HintStep}
-use Rattle.hop_rule.specs.declared.sizes.BoardSizes.{BoardSizes}
-use Rattle.hop_rule.specs.declared.step.BoardStep.{BoardStep}
-use Rattle.hop_rule.specs.declared.step.BoardStep.TheVariants.{Gate, Lane}
-use Rattle.hop_rule.specs.declared.step.GateStep.TheVariants.{Entered, Left, Read, Turned}
-use Rattle.hop_rule.specs.declared.step.LaneStep.TheVariants.{OutHeld}
-use Rattle.hop_rule.proofs.Lists.{none-some}
-use Rattle.board_api.specs.Seats.{BoardSeatView, Adds}
-use Rattle.hop_delivery.specs.Orders.Turns.{Explained, Turn}
-use Rattle.steer_base.specs.Choices.{class_of}
-use Rattle.steer_model.specs.State.Setup.{Setup, packet_hash}
-use Rattle.run_words.specs.Lists.{oldest_first}
-use Rattle.run_words.specs.Values.{socket_size_in}
-use Rattle.run_workers.specs.Hands.Servers.{BacksOut, IsServer, KeepsHand, LeavesInbox, Queued}
-use Rattle.run_workers.specs.Hands.Servers.{Replies, RepliesToHand, TakesNext}
-use Rattle.run_workers.specs.declared.server.Server.{Server}
+use Rattle.std.proofs.lemmas.List.{length-map}
+use Rattle.run_workers.specs.Hands.Servers.{KeepsHand, Replies, RepliesToHand}
+use Rattle.run_workers.proofs.Names.{◌≡◌, ◌⊎◌, inl, inr, ℕ, ◌*◌, ◌<◌, true, false, List, [], ◌∷◌}
+use Rattle.run_workers.proofs.Names.{◌++◌, Option, None, Some, IfSome, length, map, sym, refl, ap}
+use Rattle.run_workers.proofs.Names.{◌∙◌, subst, arith, Contains, Contains-append_left, map-append}
+use Rattle.run_workers.proofs.Names.{StepBy, step_by, steps_of, SeatView, grown, Arrival, Sent}
+use Rattle.run_workers.proofs.Names.{HintStep, BoardSizes, BoardStep, Gate, Lane, Entered, Left}
+use Rattle.run_workers.proofs.Names.{Read, Turned, OutHeld, none-some, BoardSeatView, Adds}
+use Rattle.run_workers.proofs.Names.{Explained, Turn, class_of, Setup, packet_hash, oldest_first}
+use Rattle.run_workers.proofs.Names.{socket_size_in, BacksOut, IsServer, LeavesInbox, Queued}
+use Rattle.run_workers.proofs.Names.{TakesNext, Server, Grows, NotesGrow, Note}
 use Rattle.run_workers.proofs.Hands.ServerLaws.{applications_explain}
-use Rattle.run_workers.specs.Records.Growth.{Grows, held}
+use Rattle.run_workers.specs.Records.Growth.{held}
 use Rattle.run_workers.specs.Records.Polling.{choices_in}
 use Rattle.run_workers.specs.Records.Replying.{EachReplied, HasWrittenAll, HasFound, HasReadInside}
 use Rattle.run_workers.specs.Records.Replying.{IsReplied, IsReplying, RepliedTurn, replied_table}
 use Rattle.run_workers.specs.Records.Replying.{taken_by}
 use Rattle.run_workers.specs.Records.ReplyingLaws.{ArrivalsComeLate, RepliesGoOn, RepliesOn}
 use Rattle.run_workers.specs.Records.ReplyingLaws.{ServersBegin, ServersStay, TakesGoOn, TakesOn}
-use Rattle.run_workers.specs.Records.Storing.{NotesGrow}
-use Rattle.run_workers.specs.Records.Words.{Note}
 use Rattle.run_workers.proofs.Records.HeldLemmas.{NotedFor, came_later, came_with, found_later}
 use Rattle.run_workers.proofs.Records.HeldLemmas.{queued_there, stands_there, stood_later}
 use Rattle.run_workers.proofs.Records.HeldLemmas.{writes_grow, writes_later}

@@ -1,48 +1,29 @@
 -- What was stored at the hint words was for a turn, a mark or a note.
-use Rattle.std.proofs.Common.{◌≡◌, ◌≢◌, inl, inr, ℕ, ◌+◌, Bool, true, false, List, [], ◌∷◌}
-use Rattle.std.proofs.Common.{◌++◌, Option, None, Some, IfSome, sym, refl, ap, ◌∙◌, subst, arith}
-use Rattle.std.proofs.Common.{length, length-append}
-use Rattle.std.specs.List.{Contains}
 use Rattle.std.proofs.lemmas.List.{append_cancel_left}
 use mathlib.Core.Logic.{dite}
 use native.Mathlib.Decide.{ℕ_discrete}
-use Rattle.linearization.specs.Orders.{StepBy, step_by}
-use Rattle.linearization.specs.Seats.{SeatView}
-use Rattle.linearization.proofs.ListLemmas.{if_other, if_same}
-use Rattle.steer_base.specs.Arrivals.{filter_place}
-use Rattle.steer_base.specs.Choices.{class_of}
-use Rattle.steer_base.specs.Journals.{Journal}
-use Rattle.steer_base.specs.declared.filter.Filter.{Filter}
-use Rattle.steer_base.specs.declared.put.Put.{Put}
-use Rattle.steer_base.specs.declared.put.Put.TheVariants.{At, Dropped}
-use Rattle.dev_flow_table.specs.Tables.{Table}
-use Rattle.history.specs.declared.arrival.Arrival.{Arrival}
-use Rattle.history.specs.declared.sock_write.SockWrite.{SockWrite}
+use Rattle.linearization.proofs.ListLemmas.{if_other}
 use Rattle.hint_words.specs.Steps.{value_written}
-use Rattle.hint_words.specs.declared.step.HintStep.{HintStep}
-use Rattle.hint_words.specs.declared.step.HintStep.TheVariants.{Load, Store}
-use Rattle.hop_rule.specs.Moments.{nth_step}
-use Rattle.hop_rule.specs.declared.sizes.BoardSizes.{BoardSizes}
-use Rattle.hop_rule.proofs.Lists.{none-some, some-is}
+use Rattle.hint_words.specs.declared.step.HintStep.TheVariants.{Store}
 use Rattle.hop_rule.proofs.Moments.{nth-first}
-use Rattle.board_api.specs.Seats.{BoardSeatView}
-use Rattle.hop_delivery.specs.Orders.Turns.{Turn}
-use Rattle.steer_model.specs.State.Setup.{Setup, packet_hash}
-use Rattle.steer_model.specs.Steps.Pollers.{filter_for}
 use Rattle.run_words.specs.HintViews.{after_step}
 use Rattle.run_words.specs.Numbers.{hint_number}
-use Rattle.run_words.specs.Values.{filter_word, place_word, socket_size_in}
+use Rattle.run_words.specs.Values.{filter_word, place_word}
 use Rattle.run_words.specs.declared.hint_word.HintWord.TheVariants as hint
 use Rattle.run_words.specs.declared.hint_word.TheConstants.{FILTER_WORDS, STAND_WORDS}
 use Rattle.run_words.specs.declared.values.TheConstants.{STEERED}
-use Rattle.run_workers.specs.Hands.Pollers.{AsksFilter, LoadsQueue, LooksUp, StoresFilter, Visits}
-use Rattle.run_workers.specs.Hands.Servers.{Queued, RepliesOrKeeps, TakesNext, TakesOrLeaves}
-use Rattle.run_workers.specs.Hands.Servers.{Writes}
-use Rattle.run_workers.specs.declared.server.Server.{Server}
-use Rattle.run_workers.specs.Records.Growth.{Grows}
-use Rattle.run_workers.specs.Records.Storing.{ApplicationsStoreWrites, IsFor, NotesGrow}
-use Rattle.run_workers.specs.Records.Storing.{StoresAreFor}
-use Rattle.run_workers.specs.Records.Words.{FoundBefore, Mark, Note}
+use Rattle.run_workers.specs.Records.Storing.{ApplicationsStoreWrites, IsFor}
+use Rattle.run_workers.specs.Records.Words.{FoundBefore}
+use Rattle.run_workers.proofs.Names.{◌≡◌, ◌≢◌, inl, inr, ℕ, ◌+◌, Bool, true, false, List, [], ◌∷◌}
+use Rattle.run_workers.proofs.Names.{◌++◌, Option, None, Some, IfSome, sym, refl, ap, ◌∙◌, subst}
+use Rattle.run_workers.proofs.Names.{arith, length, length-append, Contains, StepBy, step_by}
+use Rattle.run_workers.proofs.Names.{SeatView, if_same, filter_place, class_of, Journal, Filter}
+use Rattle.run_workers.proofs.Names.{Put, At, Dropped, Table, Arrival, SockWrite, HintStep, Load}
+use Rattle.run_workers.proofs.Names.{nth_step, BoardSizes, none-some, some-is, BoardSeatView, Turn}
+use Rattle.run_workers.proofs.Names.{Setup, packet_hash, filter_for, socket_size_in, AsksFilter}
+use Rattle.run_workers.proofs.Names.{LoadsQueue, LooksUp, StoresFilter, Visits, Queued}
+use Rattle.run_workers.proofs.Names.{RepliesOrKeeps, TakesNext, TakesOrLeaves, Writes, Server}
+use Rattle.run_workers.proofs.Names.{Grows, NotesGrow, StoresAreFor, Mark, Note}
 use Rattle.run_workers.proofs.Records.HintLemmas.{AtMostLoads, found_set, found_stays}
 use Rattle.run_workers.proofs.Records.HintLemmas.{leaves_load, looks_stay, steps_one}
 use Rattle.run_workers.proofs.Records.ListLemmas.{contains_first, contains_later, grows_both}

@@ -1,17 +1,12 @@
 -- The words of all transmit queues that were read in a visit, as one function.
-use Rattle.std.proofs.Common.{◌≡◌, ℕ, zero, suc, ◌+◌, ◌==◌, ◌<◌, ◌≤◌, List, if◌then◌else◌}
-use Rattle.std.proofs.Common.{sym, refl, ap, ◌∙◌, subst, arith}
 use Rattle.std.specs.Prelude.{slice_index, slice_index_or}
-use Rattle.std.specs.List.{Contains}
 use mathlib.Core.Logic.{dite}
 use native.Mathlib.Decide.{ℕ_discrete}
-use Rattle.linearization.proofs.ListLemmas.{if_same, if_other}
-use Rattle.xps_map.specs.Maps.{Maps, no_cpus}
-use Rattle.hop_rule.specs.declared.step.BoardStep.{BoardStep}
-use Rattle.hop_rule.specs.declared.step.BoardStep.TheVariants.{Gate}
-use Rattle.hop_rule.specs.declared.step.GateStep.TheVariants.{Read}
-use Rattle.run_words.specs.Values.{cpus_in, queues_in}
+use Rattle.linearization.proofs.ListLemmas.{if_other}
 use Rattle.run_workers.specs.Hands.Servers.{MapRead}
+use Rattle.run_workers.proofs.Names.{◌≡◌, ℕ, zero, suc, ◌+◌, ◌==◌, ◌<◌, ◌≤◌, List, if◌then◌else◌}
+use Rattle.run_workers.proofs.Names.{sym, refl, ap, ◌∙◌, subst, arith, Contains, if_same, Maps}
+use Rattle.run_workers.proofs.Names.{no_cpus, BoardStep, Gate, Read, cpus_in, queues_in}
 
 module _ (cpus queues count : ℕ) (maps : Maps) (early : List BoardStep) where
   -- what these words say of a transmit queue

@@ -1,4 +1,4 @@
-use Rattle.run_workers.specs.Hands.Deltas.{no_lane}
+use Rattle.run_workers.proofs.Names.{no_lane}
 use Rattle.run_workers.proofs.Hands.DeltaLemmas.{serves_back, serves_missed, serves_next}
 use Rattle.run_workers.proofs.holding.hold.Goals as goal
 

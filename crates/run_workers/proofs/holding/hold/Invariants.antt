@@ -1,4 +1,4 @@
-use Rattle.run_workers.specs.Hands.Deltas.{Serves, no_lane}
+use Rattle.run_workers.proofs.Names.{Serves, no_lane}
 use Rattle.run_workers.proofs.holding.hold.Given as goal
 
 abbrev pub invariant-loop : goal.invariant-loop

@@ -1,4 +1,4 @@
-use Rattle.std.proofs.Common.{ℕ, ◌<◌, subst, ◌∙◌}
+use Rattle.run_workers.proofs.Names.{ℕ, ◌<◌, subst, ◌∙◌}
 use Rattle.run_workers.proofs.Hands.ReplyLemmas.{maps_inside, maps_next}
 use Rattle.run_workers.proofs.server.read_maps.Goals as goal
 

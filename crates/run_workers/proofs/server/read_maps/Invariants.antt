@@ -1,5 +1,5 @@
-use Rattle.std.proofs.Common.{◌≡◌, length}
 use Rattle.run_workers.specs.Hands.Servers.{MapsRead}
+use Rattle.run_workers.proofs.Names.{◌≡◌, length}
 use Rattle.run_workers.proofs.server.read_maps.Given as goal
 
 abbrev pub invariant-loop-tx : goal.invariant-loop-tx

@@ -1,6 +1,5 @@
-use Rattle.std.proofs.Common.{ℕ, inl, inr, sym, subst, ◌∙◌}
-use Rattle.run_workers.specs.Hands.Deltas.{this_lane}
 use Rattle.run_workers.specs.Hands.Drains.{FindsNoRoom}
+use Rattle.run_workers.proofs.Names.{ℕ, inl, inr, sym, subst, ◌∙◌, this_lane}
 use Rattle.run_workers.proofs.Hands.DeltaLemmas.{serves_out_back, serves_out_missed, stays}
 use Rattle.run_workers.proofs.Hands.DrainLemmas.{given_one, keeps_drain, still_pulled}
 use Rattle.run_workers.proofs.Hands.StopLemmas.{finds_no_room, stops_full}

@@ -1,8 +1,6 @@
-use Rattle.std.proofs.Common.{◌≡◌, inr, ℕ, ◌||◌, refl, ap, ◌∙◌, arith}
-use Rattle.board_api.specs.Seats.{BoardSeatView}
-use Rattle.run_workers.specs.Hands.Deltas.{Serves, this_lane}
+use Rattle.run_workers.proofs.Names.{◌≡◌, inr, ℕ, ◌||◌, refl, ap, ◌∙◌, arith, BoardSeatView, Serves}
+use Rattle.run_workers.proofs.Names.{this_lane, Drain}
 use Rattle.run_workers.proofs.Hands.DrainLemmas.{serves_on}
-use Rattle.run_workers.specs.declared.drain.Drain.{Drain}
 use Rattle.run_workers.proofs.Hands.StopLemmas.{delivered_more, moves_both, stopped_later}
 use Rattle.run_workers.proofs.Hands.StopLemmas.{stops_later}
 use Rattle.run_workers.proofs.drain.Drain.drain.Goals as goal

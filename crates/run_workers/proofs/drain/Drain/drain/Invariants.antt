@@ -1,6 +1,5 @@
-use Rattle.std.proofs.Common.{◌≡◌, ◌≤◌}
-use Rattle.run_workers.specs.Hands.Deltas.{Serves, this_lane}
-use Rattle.run_workers.specs.Hands.Drains.{IsDrain, Moves}
+use Rattle.run_workers.specs.Hands.Drains.{Moves}
+use Rattle.run_workers.proofs.Names.{◌≡◌, ◌≤◌, Serves, this_lane, IsDrain}
 use Rattle.run_workers.proofs.drain.Drain.drain.Given as goal
 
 abbrev pub invariant-loop-round : goal.invariant-loop-round

@@ -1,6 +1,5 @@
-use Rattle.std.proofs.Common.{ap, sym, refl, ◌∙◌}
 use Rattle.history.proofs.OwnLemmas.{none-unless}
-use Rattle.run_workers.specs.Hands.Deltas.{this_lane}
+use Rattle.run_workers.proofs.Names.{ap, sym, refl, ◌∙◌, this_lane}
 use Rattle.run_workers.proofs.Hands.DeltaLemmas.{serves_look, serves_next, stays}
 use Rattle.run_workers.proofs.Hands.DrainLemmas.{keeps_drain}
 use Rattle.run_workers.proofs.Hands.StopLemmas.{stops_empty}

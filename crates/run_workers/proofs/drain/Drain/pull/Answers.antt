@@ -1,6 +1,4 @@
-use Rattle.std.proofs.Common.{inl, inr}
-use Rattle.steer_base.specs.Counters.{number}
-use Rattle.run_workers.specs.Hands.Deltas.{this_lane}
+use Rattle.run_workers.proofs.Names.{inl, inr, number, this_lane}
 use Rattle.run_workers.proofs.Hands.DeltaLemmas.{serves_missed}
 use Rattle.run_workers.proofs.Hands.DrainLemmas.{keeps_drain, pulled_none, pulled_one}
 use Rattle.run_workers.proofs.Hands.StopLemmas.{finds_none}

@@ -1,4 +1,4 @@
-use Rattle.std.proofs.Common.{◌≡◌, arith}
+use Rattle.run_workers.proofs.Names.{◌≡◌, arith}
 use Rattle.run_workers.proofs.Hands.KeptLemmas.{starts}
 use Rattle.run_workers.proofs.kept_maps.KeptMaps.make.Goals as goal
 

@@ -1,8 +1,5 @@
-use Rattle.std.proofs.Common.{◌≡◌, ℕ, ◌<◌, true, subst, sym, unwrap_or, slice_index}
-use Rattle.steer_base.specs.Sets.{has}
-use Rattle.dev_flow_table.specs.Tables.{IsClassOf}
-use Rattle.run_workers.specs.Hands.Pollers.{HasLanesBelow}
-use Rattle.run_workers.specs.declared.poller.Poller.{Poller}
+use Rattle.run_workers.proofs.Names.{◌≡◌, ℕ, ◌<◌, true, subst, sym, unwrap_or, slice_index, has}
+use Rattle.run_workers.proofs.Names.{IsClassOf, HasLanesBelow, Poller}
 use Rattle.run_workers.proofs.Hands.ChoiceLemmas.{ChoiceHolds, choice_holds, class_is}
 use Rattle.run_workers.proofs.Hands.ChoiceLemmas.{desired_below}
 use Rattle.run_workers.proofs.Hands.ChoiceLemmas.{home_below, plain_below, refreshed_below}

@@ -1,9 +1,6 @@
-use Rattle.std.proofs.Common.{ℕ, Option, inl, inr, refl, ap, subst, ◌∙◌}
-use Rattle.hop_rule.specs.Boards.{gate_steps}
-use Rattle.hop_rule.specs.Gates.{closed, visit}
-use Rattle.steer_base.specs.declared.choice.Chosen.{Chosen}
-use Rattle.board_api.specs.Seats.{BoardSeatView}
 use Rattle.run_workers.specs.Hands.Pollers.{FindsAnnounced}
+use Rattle.run_workers.proofs.Names.{ℕ, Option, inl, inr, refl, ap, subst, ◌∙◌, gate_steps, closed}
+use Rattle.run_workers.proofs.Names.{visit, Chosen, BoardSeatView}
 use Rattle.run_workers.proofs.Hands.VisitLemmas.{stays_inside, stays_open, turn, visits}
 use Rattle.run_workers.proofs.Hands.WaitLemmas.{waited}
 use Rattle.run_workers.proofs.poller.Poller.poll.Goals as goal

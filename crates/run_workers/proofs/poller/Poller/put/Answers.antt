@@ -1,11 +1,6 @@
-use Rattle.std.proofs.Common.{ℕ, Option, refl, ap, subst, sym}
-use Rattle.steer_base.specs.Arrivals.{filter_place}
-use Rattle.steer_base.specs.declared.put.Put.{Put}
-use Rattle.steer_base.specs.declared.put.Put.TheVariants.{At, Dropped}
-use Rattle.board_api.specs.Calls.Results.{PutTells}
-use Rattle.steer_model.specs.Steps.Pollers.{filter_for}
-use Rattle.run_workers.specs.Hands.Pollers.{Puts, StoresFilter}
-use Rattle.run_workers.specs.declared.poller.Poller.{Poller}
+use Rattle.run_workers.specs.Hands.Pollers.{Puts}
+use Rattle.run_workers.proofs.Names.{ℕ, Option, refl, ap, subst, sym, filter_place, Put, At}
+use Rattle.run_workers.proofs.Names.{Dropped, PutTells, filter_for, StoresFilter, Poller}
 use Rattle.run_workers.proofs.Hands.PutLemmas.{dropped_told, put_made, puts, still_inside}
 use Rattle.run_workers.proofs.poller.Poller.put.Goals as goal
 

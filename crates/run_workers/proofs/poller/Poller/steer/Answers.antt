@@ -1,5 +1,4 @@
-use Rattle.std.proofs.Common.{◌≡◌, ap, arith}
-use Rattle.run_workers.specs.declared.poller.Poller.{Poller}
+use Rattle.run_workers.proofs.Names.{◌≡◌, ap, arith, Poller}
 use Rattle.run_workers.proofs.Hands.PollerLemmas.{steered_is}
 use Rattle.run_workers.proofs.poller.Poller.steer.Goals as goal
 

@@ -1,5 +1,4 @@
-use Rattle.std.proofs.Common.{Some, unwrap_or}
-use Rattle.steer_base.specs.Sets.{has}
+use Rattle.run_workers.proofs.Names.{Some, unwrap_or, has}
 use Rattle.run_workers.proofs.Hands.ChoiceLemmas.{choice_holds}
 use Rattle.run_workers.proofs.server.Server.choose.Goals as goal
 

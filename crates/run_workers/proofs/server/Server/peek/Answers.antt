@@ -1,6 +1,5 @@
-use Rattle.std.proofs.Common.{ℕ, length, subst, ap, ◌∙◌}
-use Rattle.steer_base.specs.Counters.{number}
 use Rattle.board_api.specs.Calls.Results.{ReadTells}
+use Rattle.run_workers.proofs.Names.{ℕ, length, subst, ap, ◌∙◌, number}
 use Rattle.run_workers.proofs.Hands.ServerLemmas.{peeks_held, peeks_read, vain_held, vain_none}
 use Rattle.run_workers.proofs.Hands.ServerLemmas.{vain_read}
 use Rattle.run_workers.proofs.server.Server.peek.Goals as goal

@@ -1,9 +1,5 @@
-use Rattle.std.proofs.Common.{ap, subst, sym}
-use Rattle.steer_base.specs.declared.put.Put.{Put}
-use Rattle.steer_base.specs.declared.put.Put.TheVariants.{At, Dropped}
-use Rattle.board_api.specs.Calls.Results.{PutTells}
 use Rattle.run_workers.specs.Hands.Servers.{PutsReply}
-use Rattle.run_workers.specs.declared.server.Server.{Server}
+use Rattle.run_workers.proofs.Names.{ap, subst, sym, Put, At, Dropped, PutTells, Server}
 use Rattle.run_workers.proofs.Hands.PutLemmas.{dropped_told, put_made, still_inside}
 use Rattle.run_workers.proofs.Hands.ReplyLemmas.{puts_reply}
 use Rattle.run_workers.proofs.server.Server.put.Goals as goal

@@ -1,8 +1,4 @@
-use Rattle.std.proofs.Common.{ap, ◌∙◌}
-use Rattle.hop_rule.specs.Boards.{gate_steps}
-use Rattle.hop_rule.specs.Gates.{closed, visit}
-use Rattle.history.specs.declared.sent.Sent.{Sent}
-use Rattle.board_api.specs.Seats.{BoardSeatView}
+use Rattle.run_workers.proofs.Names.{ap, ◌∙◌, gate_steps, closed, visit, Sent, BoardSeatView}
 use Rattle.run_workers.proofs.Hands.ReplyLemmas.{replies, reply_turn, sends_inside, sends_open}
 use Rattle.run_workers.proofs.server.Server.reply.Goals as goal
 

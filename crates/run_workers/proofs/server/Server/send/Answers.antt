@@ -1,5 +1,4 @@
-use Rattle.std.proofs.Common.{ℕ, subst}
-use Rattle.run_workers.specs.Hands.Pollers.{HasLanesBelow}
+use Rattle.run_workers.proofs.Names.{ℕ, subst, HasLanesBelow}
 use Rattle.run_workers.proofs.Hands.ReplyLemmas.{chooses_inside, keeps_maps, maps_inside}
 use Rattle.run_workers.proofs.Hands.ReplyLemmas.{replied_from}
 use Rattle.run_workers.proofs.server.Server.send.Goals as goal

@@ -1,10 +1,6 @@
-use Rattle.std.proofs.Common.{◌<◌, ℕ, inl, inr, refl, ap, subst, sym, ◌∙◌, arith}
 use Rattle.history.proofs.OwnLemmas.{none-unless}
-use Rattle.hop_rule.specs.Boards.{gate_steps}
-use Rattle.hop_rule.specs.Gates.{closed}
-use Rattle.board_api.specs.Seats.{BoardSeatView}
-use Rattle.run_workers.specs.Hands.Deltas.{no_lane}
-use Rattle.run_workers.specs.Hands.Servers.{HasNoNext, IsServer}
+use Rattle.run_workers.proofs.Names.{◌<◌, ℕ, inl, inr, refl, ap, subst, sym, ◌∙◌, arith, gate_steps}
+use Rattle.run_workers.proofs.Names.{closed, BoardSeatView, no_lane, HasNoNext, IsServer}
 use Rattle.run_workers.proofs.Hands.DeltaLemmas.{stays}
 use Rattle.run_workers.proofs.Hands.ServerLemmas.{peeks_serve, quiet_gate, quiet_place, taken_is}
 use Rattle.run_workers.proofs.Hands.WaitLemmas.{clear_word, set_word}

@@ -1,5 +1,4 @@
-use Rattle.std.proofs.Common.{refl}
-use Rattle.run_workers.specs.declared.drain.Exit.TheVariants.{Inboxes}
+use Rattle.run_workers.proofs.Names.{refl, Inboxes}
 use Rattle.run_workers.proofs.AtLemmas.{outs_within, read_at}
 use Rattle.run_workers.proofs.DrainLemmas.{drain_goes_on}
 use Rattle.run_workers.proofs.TurnLemmas.{others_of_drain}

@@ -1,6 +1,5 @@
-use Rattle.std.proofs.Common.{subst, sym}
-use Rattle.run_workers.specs.Stages.{stage_view}
-use Rattle.run_workers.specs.Turns.{CallsOne, Plays, actors}
+use Rattle.run_workers.specs.Turns.{CallsOne}
+use Rattle.run_workers.proofs.Names.{subst, sym, stage_view, Plays, actors}
 use Rattle.run_workers.proofs.worker.Worker.play.Goals as goal
 
 pub returns-in-Poll-clause-one : goal.returns-in-Poll-clause-one

@@ -1,6 +1,4 @@
-use Rattle.std.proofs.Common.{arith}
-use Rattle.run_workers.specs.Stages.{stage_view}
-use Rattle.run_workers.specs.Turns.{Plays, actors}
+use Rattle.run_workers.proofs.Names.{arith, stage_view, Plays, actors}
 use Rattle.run_workers.proofs.SameLemmas.{as_many, goes_both, goes_first}
 use Rattle.run_workers.proofs.TurnLemmas.{actors_counted, first_all, first_next, first_none}
 use Rattle.run_workers.proofs.TurnLemmas.{goes_grow, others_both, others_same}

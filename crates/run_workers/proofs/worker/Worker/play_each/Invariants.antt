@@ -1,6 +1,5 @@
-use Rattle.run_workers.specs.Stages.{stage_view}
-use Rattle.run_workers.specs.Turns.{CallsFirst, OthersStay, Plays, actors}
-use Rattle.run_workers.specs.Workers.{GoesOn}
+use Rattle.run_workers.specs.Turns.{CallsFirst, OthersStay}
+use Rattle.run_workers.proofs.Names.{stage_view, Plays, actors, GoesOn}
 use Rattle.run_workers.proofs.worker.Worker.play_each.Given as goal
 
 abbrev pub invariant-loop-i : goal.invariant-loop-i

@@ -1,4 +1,4 @@
-use Rattle.std.proofs.Common.{refl}
+use Rattle.run_workers.proofs.Names.{refl}
 use Rattle.run_workers.proofs.AtLemmas.{read_at, words_within}
 use Rattle.run_workers.proofs.PollLemmas.{poll_goes_on}
 use Rattle.run_workers.proofs.TurnLemmas.{others_of_poll}

@@ -1,5 +1,4 @@
-use Rattle.std.proofs.Common.{refl, subst}
-use Rattle.run_workers.specs.Hands.Servers.{RepliesOrKeeps}
+use Rattle.run_workers.proofs.Names.{refl, subst, RepliesOrKeeps}
 use Rattle.run_workers.proofs.AtLemmas.{read_at, reply_room, words_within}
 use Rattle.run_workers.proofs.ReplyLemmas.{reply_goes_on}
 use Rattle.run_workers.proofs.TurnLemmas.{others_of_serve}

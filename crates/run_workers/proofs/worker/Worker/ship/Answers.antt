@@ -1,5 +1,4 @@
-use Rattle.std.proofs.Common.{refl}
-use Rattle.run_workers.specs.declared.drain.Exit.TheVariants.{Port}
+use Rattle.run_workers.proofs.Names.{refl, Port}
 use Rattle.run_workers.proofs.AtLemmas.{outs_within, read_at}
 use Rattle.run_workers.proofs.DrainLemmas.{ship_goes_on}
 use Rattle.run_workers.proofs.TurnLemmas.{others_of_ship}

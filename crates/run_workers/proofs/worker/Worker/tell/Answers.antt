@@ -1,5 +1,4 @@
-use Rattle.std.proofs.Common.{refl}
-use Rattle.run_workers.specs.Tally.{finished_by}
+use Rattle.run_workers.proofs.Names.{refl, finished_by}
 use Rattle.run_workers.proofs.TallyLemmas.{counter_tells}
 use Rattle.run_workers.proofs.worker.Worker.tell.Goals as goal
 

@@ -1,5 +1,4 @@
-use Rattle.std.proofs.Common.{refl, ap, ◌+◌, arith}
-use Rattle.run_workers.specs.Tally.{finished_by}
+use Rattle.run_workers.proofs.Names.{refl, ap, ◌+◌, arith, finished_by}
 use Rattle.run_workers.proofs.TallyLemmas.{counter_loads, counts_both, loaded_more}
 use Rattle.run_workers.proofs.worker.Worker.told_by_all.Goals as goal
 

@@ -1,5 +1,5 @@
-use Rattle.std.proofs.Common.{ℕ, ◌≤◌}
-use Rattle.run_workers.specs.Tally.{CountsOn, Loaded, finished_by}
+use Rattle.run_workers.specs.Tally.{Loaded}
+use Rattle.run_workers.proofs.Names.{ℕ, ◌≤◌, CountsOn, finished_by}
 use Rattle.run_workers.proofs.worker.Worker.told_by_all.Given as goal
 
 abbrev pub invariant-loop-word : goal.invariant-loop-word

@@ -1,5 +1,4 @@
-use Rattle.std.proofs.Common.{arith}
-use Rattle.run_workers.specs.Tally.{finished_by}
+use Rattle.run_workers.proofs.Names.{arith, finished_by}
 use Rattle.run_workers.proofs.LookLemmas.{looks_more}
 use Rattle.run_workers.proofs.Records.ListLemmas.{contains_later}
 use Rattle.run_workers.proofs.SameLemmas.{goes_both, goes_on_twice}

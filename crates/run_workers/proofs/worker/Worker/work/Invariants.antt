@@ -1,9 +1,8 @@
-use Rattle.std.proofs.Common.{◌≡◌, ◌+◌, ◌<◌, ◌≤◌, true, length}
 use Rattle.run_workers.specs.Looks.{look_count}
-use Rattle.run_workers.specs.Stages.{stage_view}
-use Rattle.run_workers.specs.Tally.{CountsOn, HasFinished, finished_by}
-use Rattle.run_workers.specs.Workers.{GoesOn}
+use Rattle.run_workers.specs.Tally.{HasFinished}
 use Rattle.run_workers.specs.declared.work.TheConstants.{MAX_IDLE_TURNS}
+use Rattle.run_workers.proofs.Names.{◌≡◌, ◌+◌, ◌<◌, ◌≤◌, true, length, stage_view, CountsOn}
+use Rattle.run_workers.proofs.Names.{finished_by, GoesOn}
 use Rattle.run_workers.proofs.worker.Worker.work.Given as goal
 
 abbrev pub invariant-loop : goal.invariant-loop
