@@ -1,38 +1,32 @@
 -- What the controller knows agrees with the words of its settings.
-use Rattle.std.proofs.Common.{◌≡◌, ℕ, zero, suc, ◌+◌, ◌*◌, ◌/◌, ◌^◌, ◌<◌, ◌==◌, ◌&&◌}
-use Rattle.std.proofs.Common.{Bool, true}
-use Rattle.std.proofs.Common.{false, List, [], ◌∷◌, Some, None, length, map, All}
-use Rattle.std.proofs.Common.{if◌then◌else◌, refl, sym, ap, subst, ◌∙◌, arith}
+use Rattle.std.proofs.Common.{◌/◌, ◌==◌, ◌&&◌}
 use Rattle.std.specs.Prelude.{replicate, slice_index, slice_set}
 use Rattle.std.proofs.lemmas.List.{get_or-set_same, get_or-set_other}
-use Rattle.std.proofs.lemmas.List.Elements.{All-head, All-tail}
 use mathlib.Core.Logic.{dite}
 use native.Mathlib.Decide.{ℕ_discrete}
 use Rattle.linearization.proofs.ListLemmas.{if_same, if_other}
 use Rattle.steer_base.specs.Counters.{rounded_up}
 use Rattle.steer_base.specs.Sets.{with_cpu, without_cpu}
 use Rattle.steer_base.specs.declared.command.Answer.TheVariants as says
-use Rattle.steer_base.specs.declared.command.Command.{Command}
 use Rattle.steer_base.specs.declared.command.Command.TheVariants as give
-use Rattle.history.specs.declared.commanded.Commanded.{Commanded}
-use Rattle.history.specs.declared.history.History.{History}
-use Rattle.hop_rule.proofs.Lists.{none-some, some-is}
-use Rattle.hop_delivery.specs.Orders.Commands.{SettingChange, made, next_flows, received_sets}
-use Rattle.hop_delivery.specs.Orders.Commands.{sent_sets}
-use Rattle.hop_delivery.specs.Orders.ReceiveSettings.{Queues, mask, queues}
-use Rattle.plan_reader.specs.declared.plan.Plan.{Plan}
+use Rattle.hop_delivery.specs.Orders.Commands.{made, next_flows}
+use Rattle.hop_delivery.specs.Orders.ReceiveSettings.{mask}
 use Rattle.steer_model.specs.Good.Commands.{IsEnd, gate_lanes}
-use Rattle.steer_model.specs.Good.Inputs.{Input, is_flows}
-use Rattle.steer_model.specs.State.Settings.{Settings, changed}
-use Rattle.steer_model.specs.Steps.Commands.{is_done}
+use Rattle.steer_model.specs.Good.Inputs.{is_flows}
+use Rattle.steer_model.specs.State.Settings.{changed}
 use Rattle.run_words.specs.Values.{flows_word}
-use Rattle.run_coupling.specs.Coupling.Inputs.{AreReceiveWords, NamesReceiveQueues}
-use Rattle.run_coupling.specs.Coupling.Tries.{Try, settings_by}
+use Rattle.run_coupling.specs.Coupling.Inputs.{AreReceiveWords}
+use Rattle.run_coupling.specs.Coupling.Tries.{settings_by}
 use Rattle.run_coupling.proofs.Tries.ResizeLemmas.{resizes_by}
-use Rattle.run_controller.specs.Journals.{known_from}
-use Rattle.run_controller.specs.Settings.{KnownSettings, first_known, generations_after}
-use Rattle.run_controller.specs.Settings.{known_after, receive_change, transmit_change}
-use Rattle.run_controller.specs.declared.change.Change.{Change}
+use Rattle.run_controller.specs.Settings.{generations_after, known_after}
+use Rattle.run_controller.proofs.Names.{◌≡◌, ℕ, zero, suc, ◌+◌, ◌*◌, ◌^◌, ◌<◌, Bool, true, false}
+use Rattle.run_controller.proofs.Names.{List, [], ◌∷◌, Some, None, length, map, All, if◌then◌else◌}
+use Rattle.run_controller.proofs.Names.{refl, sym, ap, subst, ◌∙◌, arith, All-head, All-tail}
+use Rattle.run_controller.proofs.Names.{Command, Commanded, History, none-some, some-is}
+use Rattle.run_controller.proofs.Names.{SettingChange, received_sets, sent_sets, Queues, queues}
+use Rattle.run_controller.proofs.Names.{Plan, Input, Settings, is_done, NamesReceiveQueues, Try}
+use Rattle.run_controller.proofs.Names.{known_from, KnownSettings, first_known, receive_change}
+use Rattle.run_controller.proofs.Names.{transmit_change, Change}
 use Rattle.run_controller.proofs.KnownLemmas.{generations-size, length-zeros}
 
 -- ---- what is known after tries

@@ -1,47 +1,32 @@
 -- What the controller did gives its coupling invariants.
-use Rattle.std.proofs.Common.{◌≡◌, ◌⊎◌, inl, inr, ℕ, zero, suc, List, [], ◌∷◌, ◌++◌, Some}
-use Rattle.std.proofs.Common.{length, map, All, refl, sym, ap, subst, ◌∙◌, arith, append_assoc}
 use Rattle.std.specs.Prelude.{slice_get}
-use Rattle.std.specs.List.{Contains}
-use Rattle.std.proofs.lemmas.List.{length-map}
-use Rattle.std.proofs.lemmas.List.Elements.{All-cons, All-head, All-nil, All-tail}
 use Rattle.steer_base.specs.declared.command.Answer.TheVariants as says
 use Rattle.steer_base.specs.declared.command.Command.TheVariants as give
-use Rattle.hint_words.specs.declared.step.HintStep.{HintStep}
-use Rattle.hint_words.specs.declared.step.HintStep.TheVariants.{ClearIf, Store}
-use Rattle.history.specs.declared.commanded.Commanded.{Commanded}
-use Rattle.history.specs.declared.history.History.{History}
-use Rattle.hop_rule.proofs.Lists.{none-some}
-use Rattle.board_api.specs.Views.{BoardView}
-use Rattle.hop_delivery.specs.Orders.Commands.{received_sets, sent_sets}
-use Rattle.hop_delivery.specs.Orders.ReceiveSettings.{Queues, queues}
-use Rattle.plan_reader.specs.declared.plan.QueuePlan.{QueuePlan}
 use Rattle.steer_base.specs.Commands.{refusal}
-use Rattle.steer_model.specs.Good.Inputs.{Input, setup_in}
-use Rattle.steer_model.specs.State.Settings.{Settings}
-use Rattle.steer_model.specs.State.Setup.{Setup}
 use Rattle.steer_model.specs.State.Start.{initial_settings}
-use Rattle.run_words.specs.declared.shared.Shared.{Shared}
 use Rattle.run_coupling.specs.Laws.SharedCodes.{AreShared}
 use Rattle.run_coupling.specs.Coupling.Answers.{AllAnswered}
 use Rattle.run_coupling.specs.Coupling.EmptiedLanes.{AllFindLanes}
 use Rattle.run_coupling.specs.Coupling.Hints.{HintCodes}
-use Rattle.run_coupling.specs.Coupling.Inputs.{NamesReceiveQueues, receive_queues}
-use Rattle.run_coupling.specs.Coupling.Tries.{AllSetByAnswer, Try, at_receive, at_transmit}
-use Rattle.run_words.specs.Lists.{oldest_first}
-use Rattle.run_coupling.specs.Coupling.Tries.{settings_by, steps_of_tries, words_after}
+use Rattle.run_coupling.specs.Coupling.Inputs.{receive_queues}
+use Rattle.run_coupling.specs.Coupling.Tries.{AllSetByAnswer, at_receive, at_transmit, settings_by}
+use Rattle.run_coupling.specs.Coupling.Tries.{steps_of_tries, words_after}
 use Rattle.run_coupling.proofs.Runs.QueueLemmas.{all_name_queues}
 use Rattle.run_coupling.proofs.Tries.GivenLemmas.{all_within}
 use Rattle.run_coupling.proofs.Tries.RangeLemmas.{IsWithinPlan}
 use Rattle.run_coupling.proofs.Tries.ResizeLemmas.{resizes_by}
 use Rattle.run_coupling.proofs.Tries.WordLemmas.{words_are}
-use Rattle.run_controller.specs.Gated.{GatedTriesKeep}
-use Rattle.run_controller.specs.Attempts.{TriesUnless}
-use Rattle.run_controller.specs.Journals.{AllAttempted, known_from}
+use Rattle.run_controller.specs.Journals.{AllAttempted}
 use Rattle.run_controller.specs.Laws.{AreBoards, ControllerKeepsCoupling, IsStoredFor}
-use Rattle.run_controller.specs.Settings.{KnownSettings, first_known}
-use Rattle.run_controller.specs.Stages.{Stage, stage}
-use Rattle.run_words.specs.declared.seats.Seats.{Seats}
+use Rattle.run_controller.proofs.Names.{◌≡◌, ◌⊎◌, inl, inr, ℕ, zero, suc, List, [], ◌∷◌, ◌++◌, Some}
+use Rattle.run_controller.proofs.Names.{length, map, All, refl, sym, ap, subst, ◌∙◌, arith}
+use Rattle.run_controller.proofs.Names.{append_assoc, Contains, length-map, All-cons, All-head}
+use Rattle.run_controller.proofs.Names.{All-nil, All-tail, HintStep, ClearIf, Store, Commanded}
+use Rattle.run_controller.proofs.Names.{History, none-some, BoardView, received_sets, sent_sets}
+use Rattle.run_controller.proofs.Names.{Queues, queues, QueuePlan, Input, setup_in, Settings, Setup}
+use Rattle.run_controller.proofs.Names.{Shared, NamesReceiveQueues, Try, oldest_first}
+use Rattle.run_controller.proofs.Names.{GatedTriesKeep, TriesUnless, known_from, KnownSettings}
+use Rattle.run_controller.proofs.Names.{first_known, Stage, stage, Seats}
 use Rattle.run_controller.proofs.AgreeLemmas.{Agrees, agrees, given_in, known-generations}
 use Rattle.run_controller.proofs.AgreeLemmas.{known-settings}
 use Rattle.run_controller.proofs.ListLemmas.{append-none, contains-first, contains-later}

@@ -1,12 +1,8 @@
 -- The gate while the closer looks at lanes.
-use Rattle.std.proofs.Common.{◌≡◌, List, [], ◌∷◌, refl, ap, ◌∙◌}
-use Rattle.hop_rule.specs.Boards.{gate_steps}
-use Rattle.hop_rule.specs.Gates.{closed}
-use Rattle.hop_rule.specs.declared.step.BoardStep.{BoardStep}
-use Rattle.hop_rule.specs.declared.step.BoardStep.TheVariants.{Weighed, Counted}
-use Rattle.board_api.specs.Calls.Results.{Looked, looking}
+use Rattle.hop_rule.specs.declared.step.BoardStep.TheVariants.{Counted}
 use Rattle.board_api.specs.Calls.Rights.{HasClosed}
-use Rattle.board_api.specs.Seats.{BoardSeatView}
+use Rattle.run_controller.proofs.Names.{◌≡◌, List, [], ◌∷◌, refl, ap, ◌∙◌, gate_steps, closed}
+use Rattle.run_controller.proofs.Names.{BoardStep, Weighed, Looked, looking, BoardSeatView}
 
 gate-looking : (xs : List Looked) (steps : List BoardStep)
     → gate_steps (looking xs steps) ≡ gate_steps steps

@@ -1,33 +1,26 @@
 -- A gated try keeps the coupling invariants of tries.
-use Rattle.std.proofs.Common.{◌≡◌, inl, inr, ℕ, ◌*◌, ◌^◌, ◌<◌, true, List, [], ◌∷◌, ◌++◌}
-use Rattle.std.proofs.Common.{length, map, refl, sym, ap, subst, ◌∙◌, arith}
-use Rattle.std.specs.List.{Contains}
 use Rattle.std.proofs.lemmas.List.Elements.{All-contains, Contains-append_right}
 use Rattle.steer_base.specs.Sets.{has}
-use Rattle.steer_base.specs.declared.command.Answer.{Answer}
 use Rattle.steer_base.specs.declared.command.Answer.TheVariants as says
 use Rattle.steer_base.specs.declared.command.Busy.{Busy}
-use Rattle.steer_base.specs.declared.command.Busy.TheVariants.{Inside, NotEmpty}
-use Rattle.steer_base.specs.declared.command.Command.{Command}
-use Rattle.steer_base.specs.declared.cpu_mask.CpuMask.{CpuMask}
 use Rattle.steer_base.proofs.SetsLemmas.{those_below-below, those_below-passes}
 use Rattle.history.specs.declared.lane_list.LaneList.{LaneList}
-use Rattle.hop_rule.specs.Boards.{gate_steps}
-use Rattle.hop_rule.specs.Gates.{openings, visit}
-use Rattle.hop_rule.specs.declared.sizes.BoardSizes.{BoardSizes}
-use Rattle.hop_rule.specs.declared.step.BoardStep.{BoardStep}
-use Rattle.hop_rule.specs.declared.step.BoardStep.TheVariants.{Counted, Gate, Weighed}
+use Rattle.hop_rule.specs.Gates.{openings}
+use Rattle.hop_rule.specs.declared.step.BoardStep.TheVariants.{Counted}
 use Rattle.hop_rule.specs.declared.step.GateStep.TheVariants.{NotShut, Opened, Set, Shut}
-use Rattle.board_api.specs.Calls.Results.{Looked, lanes_in, looking}
+use Rattle.board_api.specs.Calls.Results.{lanes_in}
 use Rattle.board_api.specs.Calls.Rights.{IsOutside}
-use Rattle.board_api.specs.Seats.{BoardSeatView}
-use Rattle.hop_delivery.specs.Orders.Commands.{SettingChange}
-use Rattle.steer_model.specs.Good.Inputs.{Input, setup_in}
 use Rattle.run_coupling.specs.Laws.Calls.{busy_steps}
 use Rattle.run_coupling.specs.Coupling.EmptiedLanes.{FindsAllEmpty}
 use Rattle.run_coupling.proofs.Tries.CallLemmas.{busy_calls, done_calls, inside_calls}
 use Rattle.run_coupling.proofs.Tries.EmptiedLemmas.{gates-looking, looking-append, looking-split}
-use Rattle.run_controller.specs.Gated.{GatedTriesKeep, HasAffected, IsGated, KeepsTry}
+use Rattle.run_controller.specs.Gated.{HasAffected, KeepsTry}
+use Rattle.run_controller.proofs.Names.{◌≡◌, inl, inr, ℕ, ◌*◌, ◌^◌, ◌<◌, true, List, [], ◌∷◌, ◌++◌}
+use Rattle.run_controller.proofs.Names.{length, map, refl, sym, ap, subst, ◌∙◌, arith, Contains}
+use Rattle.run_controller.proofs.Names.{Answer, Inside, NotEmpty, Command, CpuMask, gate_steps}
+use Rattle.run_controller.proofs.Names.{visit, BoardSizes, BoardStep, Gate, Weighed, Looked}
+use Rattle.run_controller.proofs.Names.{looking, BoardSeatView, SettingChange, Input, setup_in}
+use Rattle.run_controller.proofs.Names.{GatedTriesKeep, IsGated}
 
 -- the cases of an answer
 busy_of : Answer → Busy → Busy

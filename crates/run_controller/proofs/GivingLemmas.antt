@@ -1,13 +1,10 @@
 -- Commands that are given until they are not busy or their tries are used up.
-use Rattle.std.proofs.Common.{◌≡◌, ℕ, zero, suc, ◌+◌, ◌<◌, ◌≤◌, true, false, List, []}
-use Rattle.std.proofs.Common.{◌∷◌, ◌++◌, Some, length, All, refl, sym, ap, subst, ◌∙◌}
-use Rattle.std.proofs.Common.{arith, length-append, append_assoc}
 use Rattle.std.specs.Prelude.{slice_get}
-use Rattle.std.proofs.lemmas.List.Elements.{All-cons, All-nil}
-use Rattle.steer_base.specs.declared.command.Command.{Command}
-use Rattle.history.specs.declared.commanded.Commanded.{Commanded}
-use Rattle.hop_rule.proofs.Lists.{some-is}
 use Rattle.steer_model.specs.Good.Commands.{AreGiven, AreTries, is_busy}
+use Rattle.run_controller.proofs.Names.{◌≡◌, ℕ, zero, suc, ◌+◌, ◌<◌, ◌≤◌, true, false, List, []}
+use Rattle.run_controller.proofs.Names.{◌∷◌, ◌++◌, Some, length, All, refl, sym, ap, subst, ◌∙◌}
+use Rattle.run_controller.proofs.Names.{arith, length-append, append_assoc, All-cons, All-nil}
+use Rattle.run_controller.proofs.Names.{Command, Commanded, some-is}
 use Rattle.run_controller.proofs.ListLemmas.{append-none}
 
 -- all these tries are of the command, and each was busy

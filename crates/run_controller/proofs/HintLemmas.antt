@@ -1,21 +1,15 @@
 -- What a try may write at the hint words: what it stores, and which words it clears by a step that
 -- compares.
-use Rattle.std.proofs.Common.{◌≡◌, ◌⊎◌, inl, inr, ℕ, ◌<◌, ◌≤◌, Bool, List, [], ◌∷◌, ◌++◌}
-use Rattle.std.proofs.Common.{length, refl, sym, ap, subst, arith, ◌∙◌}
-use Rattle.std.specs.List.{Contains}
-use Rattle.steer_base.specs.declared.command.Answer.{Answer}
 use Rattle.steer_base.specs.declared.command.Answer.TheVariants as says
-use Rattle.steer_base.specs.declared.command.Command.{Command}
 use Rattle.steer_base.specs.declared.command.Command.TheVariants as give
-use Rattle.steer_base.specs.declared.limits.TheConstants.{MAX_SOCKET_SIZE}
-use Rattle.hint_words.specs.declared.step.HintStep.{HintStep}
-use Rattle.hint_words.specs.declared.step.HintStep.TheVariants.{ClearIf, Load, Store}
-use Rattle.history.specs.declared.commanded.Commanded.{Commanded}
-use Rattle.run_words.specs.HintViews.{HintView}
-use Rattle.run_words.specs.Numbers.{hint_number}
+use Rattle.hint_words.specs.declared.step.HintStep.TheVariants.{Load}
 use Rattle.run_words.specs.Values.{place_word}
 use Rattle.run_words.specs.declared.hint_word.HintWord.TheVariants as word
 use Rattle.run_controller.specs.Attempts.{AreClears, ClearsByAnswer, HintsBehind}
+use Rattle.run_controller.proofs.Names.{◌≡◌, ◌⊎◌, inl, inr, ℕ, ◌<◌, ◌≤◌, Bool, List, [], ◌∷◌, ◌++◌}
+use Rattle.run_controller.proofs.Names.{length, refl, sym, ap, subst, arith, ◌∙◌, Contains, Answer}
+use Rattle.run_controller.proofs.Names.{Command, MAX_SOCKET_SIZE, HintStep, ClearIf, Store}
+use Rattle.run_controller.proofs.Names.{Commanded, HintView, hint_number}
 use Rattle.run_controller.proofs.ListLemmas.{contains-cases}
 
 -- ---- steps

@@ -1,24 +1,19 @@
 -- What the controller knows stays in its ranges.
-use Rattle.std.proofs.Common.{◌≡◌, ℕ, zero, suc, ◌+◌, ◌<◌, ◌≤◌, Bool, true, false, List}
-use Rattle.std.proofs.Common.{length, if◌then◌else◌, refl, sym, ap, subst, ◌∙◌, arith}
 use Rattle.std.specs.Prelude.{replicate, slice_index, slice_set}
-use Rattle.std.proofs.lemmas.List.{get_or-set_same, get_or-set_other, length-set, length-map}
+use Rattle.std.proofs.lemmas.List.{get_or-set_same, get_or-set_other, length-set}
 use mathlib.Core.Logic.{dite}
 use native.Mathlib.Decide.{ℕ_discrete}
 use Rattle.steer_base.specs.Counters.{rounded_up}
-use Rattle.steer_base.specs.declared.command.Command.{Command}
 use Rattle.steer_base.specs.declared.command.Command.TheVariants as give
-use Rattle.history.specs.declared.commanded.Commanded.{Commanded}
-use Rattle.plan_reader.specs.declared.plan.Plan.{Plan}
-use Rattle.plan_reader.specs.declared.plan.QueuePlan.{QueuePlan}
-use Rattle.steer_model.specs.State.Settings.{Settings, changed}
-use Rattle.steer_model.specs.State.Setup.{Setup}
+use Rattle.steer_model.specs.State.Settings.{changed}
 use Rattle.steer_model.specs.State.Start.{setup_of}
-use Rattle.steer_model.specs.Steps.Commands.{is_done}
 use Rattle.run_controller.specs.Journals.{known_by}
-use Rattle.run_controller.specs.Settings.{IsKnown, KnownSettings, first_known, generations_after}
-use Rattle.run_controller.specs.Settings.{known_after}
-use Rattle.run_controller.specs.Stages.{IsNamed}
+use Rattle.run_controller.specs.Settings.{generations_after, known_after}
+use Rattle.run_controller.proofs.Names.{◌≡◌, ℕ, zero, suc, ◌+◌, ◌<◌, ◌≤◌, Bool, true, false, List}
+use Rattle.run_controller.proofs.Names.{length, if◌then◌else◌, refl, sym, ap, subst, ◌∙◌, arith}
+use Rattle.run_controller.proofs.Names.{length-map, Command, Commanded, Plan, QueuePlan, Settings}
+use Rattle.run_controller.proofs.Names.{Setup, is_done, IsKnown, KnownSettings, first_known}
+use Rattle.run_controller.proofs.Names.{IsNamed}
 
 -- ---- a done command
 

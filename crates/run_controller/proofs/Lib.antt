@@ -1,3 +1,4 @@
+pub mod Names
 pub mod GateLemmas
 pub mod GatedLaws
 mod ListLemmas

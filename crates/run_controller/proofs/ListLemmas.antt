@@ -1,8 +1,6 @@
 -- Members of lists of steps, and lists the other way round.
-use Rattle.std.proofs.Common.{◌≡◌, ◌⊎◌, inl, inr, zero, suc, List, [], ◌∷◌, ◌++◌}
-use Rattle.std.proofs.Common.{refl, ap, ◌∙◌, arith, append_assoc}
-use Rattle.std.specs.List.{Contains}
-use Rattle.run_words.specs.Lists.{oldest_first}
+use Rattle.run_controller.proofs.Names.{◌≡◌, ◌⊎◌, inl, inr, zero, suc, List, [], ◌∷◌, ◌++◌, refl}
+use Rattle.run_controller.proofs.Names.{ap, ◌∙◌, arith, append_assoc, Contains, oldest_first}
 
 pub contains-first : {A : Type 0} (x : A) (xs : List A) → Contains (x ∷ xs) x
 contains-first x xs = (0, omega arith, refl)

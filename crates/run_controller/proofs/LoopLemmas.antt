@@ -1,20 +1,14 @@
 -- What the loops of an expiry and of a clear of the socket flow table have done so far.
-use Rattle.std.proofs.Common.{◌≡◌, ℕ, suc, ◌+◌, ◌≤◌, Bool, true, false, List, [], ◌∷◌, ◌++◌}
-use Rattle.std.proofs.Common.{length}
-use Rattle.std.proofs.Common.{if◌then◌else◌, refl, sym, ap, subst, ◌∙◌, arith}
-use Rattle.hint_words.specs.declared.step.HintStep.{HintStep}
-use Rattle.hint_words.specs.declared.step.HintStep.TheVariants.{Store}
-use Rattle.steer_base.specs.declared.limits.TheConstants.{MAX_SOCKET_SIZE}
 use Rattle.board_api.specs.Calls.Results.{EnterTells}
-use Rattle.board_api.specs.Seats.{BoardSeatView}
 use Rattle.board_api.specs.declared.answers.EnterAnswer.{EnterAnswer}
 use Rattle.board_api.specs.declared.answers.EnterAnswer.TheVariants as enter
-use Rattle.run_words.specs.Numbers.{hint_number}
 use Rattle.run_words.specs.declared.hint_word.HintWord.TheVariants as word
-use Rattle.run_words.specs.declared.shared.Shared.{Shared}
-use Rattle.run_words.specs.HintViews.{HintView, after_step}
 use Rattle.run_controller.specs.Attempts.{AreClears, ClearsSockets}
-use Rattle.run_controller.specs.Expiries.{ExpiresAll, ExpiresOne, cleared_in}
+use Rattle.run_controller.specs.Expiries.{ExpiresOne, cleared_in}
+use Rattle.run_controller.proofs.Names.{◌≡◌, ℕ, suc, ◌+◌, ◌≤◌, Bool, true, false, List, [], ◌∷◌}
+use Rattle.run_controller.proofs.Names.{◌++◌, length, if◌then◌else◌, refl, sym, ap, subst, ◌∙◌}
+use Rattle.run_controller.proofs.Names.{arith, HintStep, Store, MAX_SOCKET_SIZE, BoardSeatView}
+use Rattle.run_controller.proofs.Names.{hint_number, Shared, HintView, after_step, ExpiresAll}
 
 -- ---- the socket flow table
 

@@ -1,50 +1,34 @@
 -- What one try of the controller keeps of the coupling invariants.
-use Rattle.std.proofs.Common.{◌≡◌, ◌⊎◌, inl, inr, ℕ, ◌+◌, ◌<◌, ◌≤◌, Bool, true, false}
-use Rattle.std.proofs.Common.{List, [], ◌∷◌, ◌++◌, Option, Some, None, length, refl, sym, ap, subst}
-use Rattle.std.proofs.Common.{◌∙◌, arith, append_assoc}
-use Rattle.std.specs.List.{Contains}
 use Rattle.steer_base.specs.Sets.{has}
-use Rattle.steer_base.specs.declared.command.Answer.{Answer}
 use Rattle.steer_base.specs.declared.command.Answer.TheVariants as says
-use Rattle.steer_base.specs.declared.command.Busy.TheVariants.{Inside, NotEmpty}
-use Rattle.steer_base.specs.declared.command.Command.{Command}
 use Rattle.steer_base.specs.declared.command.Command.TheVariants as give
 use Rattle.steer_base.specs.declared.command.Refused.{Refused}
 use Rattle.steer_base.specs.declared.command.Refused.TheVariants as refused
-use Rattle.steer_base.specs.declared.cpu_mask.CpuMask.{CpuMask}
-use Rattle.hint_words.specs.declared.step.HintStep.TheVariants.{ClearIf, Store}
-use Rattle.history.specs.declared.commanded.Commanded.{Commanded}
-use Rattle.history.specs.declared.history.History.{History}
 use Rattle.history.specs.declared.lane_list.LaneList.{LaneList}
-use Rattle.hop_rule.specs.declared.sizes.BoardSizes.{BoardSizes}
-use Rattle.hop_rule.specs.declared.step.BoardStep.{BoardStep}
-use Rattle.hop_rule.specs.declared.step.BoardStep.TheVariants.{Gate}
 use Rattle.hop_rule.specs.declared.step.GateStep.{GateStep}
 use Rattle.hop_rule.specs.declared.step.GateStep.TheVariants.{Entered, Left}
-use Rattle.board_api.specs.Seats.{BoardSeatView}
-use Rattle.board_api.specs.Views.{BoardView}
-use Rattle.hop_delivery.specs.Orders.Commands.{SettingChange, received_sets, sent_sets}
-use Rattle.hop_delivery.specs.Orders.ReceiveSettings.{Queues, queues}
 use Rattle.steer_model.specs.Good.Commands.{IsEnd}
-use Rattle.steer_model.specs.Good.Inputs.{Input, setup_in}
-use Rattle.steer_model.specs.Steps.Commands.{affects, is_done, refused_answer}
-use Rattle.run_words.specs.Numbers.{hint_number}
+use Rattle.steer_model.specs.Steps.Commands.{affects, refused_answer}
 use Rattle.run_words.specs.Values.{place_word}
 use Rattle.run_words.specs.declared.hint_word.HintWord.TheVariants as word
-use Rattle.run_words.specs.declared.shared.Shared.{Shared}
 use Rattle.run_coupling.specs.Coupling.Answers.{IsAnswered, IsBusy, IsBusyAt}
 use Rattle.run_coupling.specs.Coupling.EmptiedLanes.{FindsAllEmpty, NoSets}
-use Rattle.run_coupling.specs.Coupling.Inputs.{NamesReceiveQueues, receive_queues}
-use Rattle.run_coupling.specs.Coupling.Tries.{SetsByAnswer, Try, sets_and_openings}
-use Rattle.run_controller.specs.Gated.{GatedTriesKeep, IsGated, KeepsTry}
-use Rattle.run_words.specs.HintViews.{after_step}
-use Rattle.run_controller.specs.Attempts.{DoesAtOnce}
-use Rattle.run_controller.specs.Attempts.{TriesAtReceive, TriesAtTransmit, TriesBy, TriesUnless}
+use Rattle.run_coupling.specs.Coupling.Inputs.{receive_queues}
+use Rattle.run_coupling.specs.Coupling.Tries.{SetsByAnswer, sets_and_openings}
+use Rattle.run_controller.specs.Gated.{KeepsTry}
+use Rattle.run_controller.specs.Attempts.{DoesAtOnce, TriesAtReceive, TriesAtTransmit, TriesBy}
 use Rattle.run_controller.specs.Laws.{AreBoards}
-use Rattle.run_controller.specs.Settings.{KnownSettings, receive_change, transmit_change}
-use Rattle.run_controller.specs.Stages.{Stage, stage}
-use Rattle.run_controller.specs.declared.change.Change.{Change}
-use Rattle.run_words.specs.declared.seats.Seats.{Seats}
+use Rattle.run_controller.proofs.Names.{◌≡◌, ◌⊎◌, inl, inr, ℕ, ◌+◌, ◌<◌, ◌≤◌, Bool, true, false}
+use Rattle.run_controller.proofs.Names.{List, [], ◌∷◌, ◌++◌, Option, Some, None, length, refl, sym}
+use Rattle.run_controller.proofs.Names.{ap, subst, ◌∙◌, arith, append_assoc, Contains, Answer}
+use Rattle.run_controller.proofs.Names.{Inside, NotEmpty, Command, CpuMask, ClearIf, Store}
+use Rattle.run_controller.proofs.Names.{Commanded, History, BoardSizes, BoardStep, Gate}
+use Rattle.run_controller.proofs.Names.{BoardSeatView, BoardView, SettingChange, received_sets}
+use Rattle.run_controller.proofs.Names.{sent_sets, Queues, queues, Input, setup_in, is_done}
+use Rattle.run_controller.proofs.Names.{hint_number, Shared, NamesReceiveQueues, Try}
+use Rattle.run_controller.proofs.Names.{GatedTriesKeep, IsGated, after_step, TriesUnless}
+use Rattle.run_controller.proofs.Names.{KnownSettings, receive_change, transmit_change, Stage}
+use Rattle.run_controller.proofs.Names.{stage, Change, Seats}
 use Rattle.run_controller.proofs.AgreeLemmas.{Agrees, as_set, at-receive, at-transmit, receive-none}
 use Rattle.run_controller.proofs.AgreeLemmas.{receive-set, sent-set}
 use Rattle.run_controller.proofs.HintLemmas.{ClearsFilters, IsStoredBy, StoresFor, behind-clears}

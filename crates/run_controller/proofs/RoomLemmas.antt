@@ -1,37 +1,30 @@
 -- The room that the commands of a plan need, and what a run over them keeps.
-use Rattle.std.proofs.Common.{◌≡◌, ℕ, zero, suc, ◌+◌, ◌*◌, ◌<◌, ◌≤◌, List, [], ◌∷◌}
-use Rattle.std.proofs.Common.{◌++◌, Option}
-use Rattle.std.proofs.Common.{Some, None, length, take, refl, sym, ap, subst, ◌∙◌, arith, All, map}
-use Rattle.std.proofs.Common.{◌&&◌, Bool, true, false, length-append}
+use Rattle.std.proofs.Common.{take, ◌&&◌}
 use Rattle.std.specs.Prelude.{drop, nat_lt, slice_index_or}
 use Rattle.std.proofs.Math.Nat.{mul-le-mul_right}
 use Rattle.std.proofs.Math.Seq.{take-add}
 use Rattle.std.proofs.lemmas.Bool.{ltb-true}
-use Rattle.std.proofs.lemmas.List.{length-map}
-use Rattle.std.proofs.lemmas.List.Elements.{All-cons, All-head, All-nil, All-tail}
 use Rattle.std.specs.List.{cons_option, filter_map}
 use Rattle.std.proofs.lemmas.Nat.{mul-le}
-use Rattle.steer_base.specs.declared.command.Command.{Command}
 use Rattle.steer_base.specs.declared.command.Command.TheVariants as give
-use Rattle.steer_base.specs.declared.limits.TheConstants.{MAX_FLOW_COUNT, MAX_SOCKET_SIZE}
+use Rattle.steer_base.specs.declared.limits.TheConstants.{MAX_FLOW_COUNT}
 use Rattle.steer_base.specs.declared.step.Step.{Step}
 use Rattle.steer_base.specs.declared.step.Step.TheVariants as step
-use Rattle.history.specs.declared.commanded.Commanded.{Commanded}
-use Rattle.hop_rule.proofs.Lists.{none-some, some-is}
 use Rattle.plan_reader.specs.Plans.{sizes_of}
 use Rattle.plan_reader.specs.Ranges.{command_in, command_is_within, commands_of, step_is_within}
 use Rattle.plan_reader.specs.Ranges.{steps_in_list}
-use Rattle.plan_reader.specs.declared.plan.Plan.{Plan}
-use Rattle.plan_reader.specs.declared.plan.QueuePlan.{QueuePlan}
 use Rattle.steer_model.specs.Good.Commands.{AreGiven}
-use Rattle.steer_model.specs.State.Setup.{Setup}
 use Rattle.steer_model.specs.State.Start.{setup_of}
-use Rattle.run_controller.specs.Journals.{Attempted, IsGivenOnce, IsReady}
-use Rattle.run_controller.specs.Settings.{IsKnown, first_known}
-use Rattle.run_controller.specs.Stages.{AreSeated, IsNamed, Stage}
+use Rattle.run_controller.specs.Journals.{Attempted, IsReady}
 use Rattle.run_controller.specs.declared.controller.Controller.{Controller}
 use Rattle.run_controller.specs.declared.controller.TheConstants.{MAX_TRIES}
-use Rattle.run_words.specs.declared.seats.Seats.{Seats}
+use Rattle.run_controller.proofs.Names.{◌≡◌, ℕ, zero, suc, ◌+◌, ◌*◌, ◌<◌, ◌≤◌, List, [], ◌∷◌, ◌++◌}
+use Rattle.run_controller.proofs.Names.{Option, Some, None, length, refl, sym, ap, subst, ◌∙◌}
+use Rattle.run_controller.proofs.Names.{arith, All, map, Bool, true, false, length-append}
+use Rattle.run_controller.proofs.Names.{length-map, All-cons, All-head, All-nil, All-tail, Command}
+use Rattle.run_controller.proofs.Names.{MAX_SOCKET_SIZE, Commanded, none-some, some-is, Plan}
+use Rattle.run_controller.proofs.Names.{QueuePlan, Setup, IsGivenOnce, IsKnown, first_known}
+use Rattle.run_controller.proofs.Names.{AreSeated, IsNamed, Stage, Seats}
 use Rattle.run_controller.proofs.GivingLemmas.{given-more}
 use Rattle.run_controller.proofs.KnownLemmas.{first_is_known}
 use Rattle.run_controller.proofs.WaitLemmas.{attempted_joined}

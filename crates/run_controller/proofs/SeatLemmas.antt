@@ -1,35 +1,25 @@
 -- The controller's seats after a try.
-use Rattle.std.proofs.Common.{◌≡◌, ◌⊎◌, inl, inr, ℕ, suc, ◌+◌, ◌*◌, ◌^◌, ◌≤◌, Bool, true}
-use Rattle.std.proofs.Common.{false, List, [], ◌∷◌, ◌++◌, Option, Some, None, length, refl, sym, ap}
-use Rattle.std.proofs.Common.{subst, ◌∙◌, arith}
-use Rattle.std.specs.List.{Contains}
 use Rattle.steer_base.specs.Filters.{may_expire}
-use Rattle.steer_base.specs.declared.command.Answer.{Answer}
 use Rattle.steer_base.specs.declared.command.Answer.TheVariants as says
-use Rattle.steer_base.specs.declared.command.Busy.TheVariants.{Inside, NotEmpty}
-use Rattle.steer_base.specs.declared.cpu_mask.CpuMask.{CpuMask}
 use Rattle.steer_base.specs.declared.filter.Filter.{Filter}
-use Rattle.hint_words.specs.declared.step.HintStep.TheVariants.{ClearIf, Load, Store}
-use Rattle.hop_rule.specs.Boards.{gate_steps}
-use Rattle.hop_rule.specs.Gates.{closed, openings, visit}
-use Rattle.hop_rule.specs.declared.sizes.BoardSizes.{BoardSizes}
-use Rattle.hop_rule.specs.declared.step.BoardStep.{BoardStep}
-use Rattle.hop_rule.specs.declared.step.BoardStep.TheVariants.{Gate, Weighed}
+use Rattle.hint_words.specs.declared.step.HintStep.TheVariants.{Load}
+use Rattle.hop_rule.specs.Gates.{openings}
 use Rattle.hop_rule.specs.declared.step.GateStep.TheVariants.{Entered, Left, Opened, Read}
 use Rattle.hop_rule.specs.declared.step.GateStep.TheVariants.{Set, Shut}
-use Rattle.board_api.specs.Calls.Results.{Looked, looking}
 use Rattle.board_api.specs.Calls.Rights.{HasOpen, IsOutside}
-use Rattle.board_api.specs.Seats.{BoardSeatView}
 use Rattle.board_api.specs.StepWords.{low_half}
-use Rattle.board_api.specs.Views.{BoardView}
-use Rattle.run_words.specs.Numbers.{hint_number, receive_number}
+use Rattle.run_words.specs.Numbers.{receive_number}
 use Rattle.run_words.specs.Values.{filter_in, flows_in}
 use Rattle.run_words.specs.declared.hint_word.HintWord.TheVariants as word
 use Rattle.run_words.specs.declared.setting.ReceiveSetting.TheVariants as receive
-use Rattle.run_words.specs.declared.shared.Shared.{Shared}
 use Rattle.run_coupling.proofs.Tries.EmptiedLemmas.{gates-looking}
-use Rattle.run_controller.specs.Gated.{IsGated}
-use Rattle.run_words.specs.HintViews.{HintView, after_step}
+use Rattle.run_controller.proofs.Names.{◌≡◌, ◌⊎◌, inl, inr, ℕ, suc, ◌+◌, ◌*◌, ◌^◌, ◌≤◌, Bool, true}
+use Rattle.run_controller.proofs.Names.{false, List, [], ◌∷◌, ◌++◌, Option, Some, None, length}
+use Rattle.run_controller.proofs.Names.{refl, sym, ap, subst, ◌∙◌, arith, Contains, Answer, Inside}
+use Rattle.run_controller.proofs.Names.{NotEmpty, CpuMask, ClearIf, Store, gate_steps, closed}
+use Rattle.run_controller.proofs.Names.{visit, BoardSizes, BoardStep, Gate, Weighed, Looked}
+use Rattle.run_controller.proofs.Names.{looking, BoardSeatView, BoardView, hint_number, Shared}
+use Rattle.run_controller.proofs.Names.{IsGated, HintView, after_step}
 use Rattle.run_controller.proofs.HintLemmas.{ClearsFilters, clear-no-store, clears-more}
 use Rattle.run_controller.proofs.HintLemmas.{clears-none, clears-on, load-no-clear, load-no-store}
 use Rattle.run_controller.proofs.HintLemmas.{past-step, word_of}

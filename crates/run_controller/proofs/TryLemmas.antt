@@ -1,21 +1,14 @@
 -- The controller's seats and its journal after tries.
-use Rattle.std.proofs.Common.{◌≡◌, ℕ, ◌+◌}
-use Rattle.std.proofs.Common.{◌∷◌, Option, Some, None, length, ap, ◌∙◌}
-use Rattle.std.proofs.Common.{arith}
 use Rattle.steer_base.specs.Commands.{refusal}
-use Rattle.steer_base.specs.declared.command.Answer.{Answer}
 use Rattle.steer_base.specs.declared.command.Answer.TheVariants as says
-use Rattle.steer_base.specs.declared.command.Command.{Command}
 use Rattle.steer_base.specs.declared.command.Command.TheVariants as give
 use Rattle.steer_base.specs.declared.command.Refused.{Refused}
-use Rattle.hint_words.specs.declared.step.HintStep.TheVariants.{Store}
-use Rattle.run_words.specs.HintViews.{HintView}
-use Rattle.run_controller.specs.Attempts.{Attempts, ClearsByAnswer, DoesAtOnce}
-use Rattle.run_controller.specs.Attempts.{HintsBehind, TriesBy, TriesUnless}
-use Rattle.run_controller.specs.Settings.{KnownSettings, receive_change, transmit_change}
-use Rattle.run_controller.specs.Stages.{AreSeated, Stage}
-use Rattle.run_controller.specs.declared.change.Change.{Change}
-use Rattle.run_words.specs.declared.seats.Seats.{Seats}
+use Rattle.run_controller.specs.Attempts.{Attempts, ClearsByAnswer, DoesAtOnce, HintsBehind}
+use Rattle.run_controller.specs.Attempts.{TriesBy}
+use Rattle.run_controller.proofs.Names.{◌≡◌, ℕ, ◌+◌, ◌∷◌, Option, Some, None, length, ap, ◌∙◌}
+use Rattle.run_controller.proofs.Names.{arith, Answer, Command, Store, HintView, TriesUnless}
+use Rattle.run_controller.proofs.Names.{KnownSettings, receive_change, transmit_change, AreSeated}
+use Rattle.run_controller.proofs.Names.{Stage, Change, Seats}
 use Rattle.run_controller.proofs.SeatLemmas.{StaysOut, expired_stays, first_glances, gated_stays}
 use Rattle.run_controller.proofs.SeatLemmas.{same_stays, stays_seated}
 

@@ -1,21 +1,16 @@
 -- What a command's tries have done so far.
-use Rattle.std.proofs.Common.{◌≡◌, ℕ, ◌+◌, ◌-◌, ◌^◌, ◌<◌, ◌≤◌, true, false, List, []}
-use Rattle.std.proofs.Common.{◌∷◌, ◌++◌}
-use Rattle.std.proofs.Common.{length, refl, sym, ap, subst, ◌∙◌, arith, append_assoc, length-append}
+use Rattle.std.proofs.Common.{◌-◌}
 use Rattle.steer_base.specs.Journals.{Journal, grown}
-use Rattle.steer_base.specs.declared.command.Answer.{Answer}
-use Rattle.steer_base.specs.declared.command.Command.{Command}
-use Rattle.history.specs.declared.commanded.Commanded.{Commanded}
 use Rattle.hop_rule.specs.declared.sizes.TheConstants.{MAX_OPENINGS}
 use Rattle.steer_model.specs.Good.Commands.{is_busy}
-use Rattle.run_words.specs.Lists.{oldest_first}
 use Rattle.run_controller.specs.Attempts.{Attempts}
-use Rattle.run_controller.specs.Journals.{AllAttempted, Attempted, IsGivenOnce, IsReady, known_by}
-use Rattle.run_controller.specs.Journals.{known_from}
-use Rattle.run_controller.specs.Settings.{IsKnown, KnownSettings}
-use Rattle.run_controller.specs.Stages.{AreSeated, IsNamed, Stage}
+use Rattle.run_controller.specs.Journals.{AllAttempted, Attempted, IsReady, known_by}
 use Rattle.run_controller.specs.declared.controller.Controller.{Controller}
-use Rattle.run_words.specs.declared.seats.Seats.{Seats}
+use Rattle.run_controller.proofs.Names.{◌≡◌, ℕ, ◌+◌, ◌^◌, ◌<◌, ◌≤◌, true, false, List, [], ◌∷◌}
+use Rattle.run_controller.proofs.Names.{◌++◌, length, refl, sym, ap, subst, ◌∙◌, arith}
+use Rattle.run_controller.proofs.Names.{append_assoc, length-append, Answer, Command, Commanded}
+use Rattle.run_controller.proofs.Names.{oldest_first, IsGivenOnce, known_from, IsKnown}
+use Rattle.run_controller.proofs.Names.{KnownSettings, AreSeated, IsNamed, Stage, Seats}
 use Rattle.run_controller.proofs.GivingLemmas.{AllBusy, busy-more, ends_busy, ends_done}
 use Rattle.run_controller.proofs.KnownLemmas.{known_later, known_more}
 use Rattle.run_controller.proofs.ListLemmas.{append-none, journal-more}

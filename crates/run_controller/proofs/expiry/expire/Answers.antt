@@ -1,7 +1,4 @@
-use Rattle.std.proofs.Common.{◌∙◌, ap}
-use Rattle.hop_rule.specs.Boards.{gate_steps}
-use Rattle.hop_rule.specs.Gates.{visit}
-use Rattle.board_api.specs.Seats.{BoardSeatView}
+use Rattle.run_controller.proofs.Names.{◌∙◌, ap, gate_steps, visit, BoardSeatView}
 use Rattle.run_controller.proofs.LoopLemmas.{entered}
 use Rattle.run_controller.proofs.expiry.expire.Goals as goal
 

@@ -1,5 +1,5 @@
-use Rattle.std.proofs.Common.{◌≡◌, ◌+◌, ◌∙◌, ℕ, refl, ap, sym, subst, arith, if◌then◌else◌}
-use Rattle.run_controller.specs.Expiries.{ExpiresAll}
+use Rattle.run_controller.proofs.Names.{◌≡◌, ◌+◌, ◌∙◌, ℕ, refl, ap, sym, subst, arith}
+use Rattle.run_controller.proofs.Names.{if◌then◌else◌, ExpiresAll}
 use Rattle.run_controller.proofs.LoopLemmas.{expires_more, expires_none, few_expired}
 use Rattle.run_controller.proofs.expiry.expire_all.Given as given
 use Rattle.run_controller.proofs.expiry.expire_all.Goals as goal

@@ -1,6 +1,5 @@
-use Rattle.std.proofs.Common.{◌≡◌}
 use Rattle.board_api.specs.Calls.Rights.{IsInside}
-use Rattle.run_controller.specs.Expiries.{ExpiresAll}
+use Rattle.run_controller.proofs.Names.{◌≡◌, ExpiresAll}
 use Rattle.run_controller.proofs.expiry.expire_all.Given as goal
 
 abbrev pub invariant-loop-place : goal.invariant-loop-place

@@ -1,7 +1,4 @@
-use Rattle.std.proofs.Common.{ap}
-use Rattle.hop_rule.specs.Boards.{gate_steps}
-use Rattle.hop_rule.specs.Gates.{closed}
-use Rattle.board_api.specs.Seats.{BoardSeatView}
+use Rattle.run_controller.proofs.Names.{ap, gate_steps, closed, BoardSeatView}
 use Rattle.run_controller.proofs.GateLemmas.{looks_leave_closed}
 use Rattle.steer_base.specs.declared.command.Answer.TheVariants as says
 use Rattle.run_controller.proofs.GatedLaws.{gated_outside}

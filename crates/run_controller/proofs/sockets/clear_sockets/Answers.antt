@@ -1,7 +1,5 @@
-use Rattle.std.proofs.Common.{◌≡◌, ◌∙◌, ℕ, arith, subst}
-use Rattle.steer_base.specs.declared.limits.TheConstants.{MAX_SOCKET_SIZE}
-use Rattle.hint_words.specs.declared.step.HintStep.TheVariants.{Store}
-use Rattle.run_words.specs.HintViews.{after_step}
+use Rattle.run_controller.proofs.Names.{◌≡◌, ◌∙◌, ℕ, arith, subst, MAX_SOCKET_SIZE, Store}
+use Rattle.run_controller.proofs.Names.{after_step}
 use Rattle.run_controller.proofs.LoopLemmas.{Cleared, cleared_all, cleared_more, cleared_none}
 use Rattle.run_controller.proofs.sockets.clear_sockets.Goals as goal
 

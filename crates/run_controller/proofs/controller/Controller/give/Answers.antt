@@ -1,5 +1,4 @@
-use Rattle.std.proofs.Common.{◌≡◌, ◌∙◌, sym, arith}
-use Rattle.run_controller.specs.Stages.{stage}
+use Rattle.run_controller.proofs.Names.{◌≡◌, ◌∙◌, sym, arith, stage}
 use Rattle.run_controller.proofs.WaitLemmas.{given_busy, given_done, may_try, waits_more}
 use Rattle.run_controller.proofs.WaitLemmas.{waits_none}
 use Rattle.run_controller.proofs.controller.Controller.give.Goals as goal

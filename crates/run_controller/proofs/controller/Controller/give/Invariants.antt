@@ -1,4 +1,4 @@
-use Rattle.run_controller.specs.Stages.{stage}
+use Rattle.run_controller.proofs.Names.{stage}
 use Rattle.run_controller.proofs.WaitLemmas.{Waits}
 use Rattle.run_controller.proofs.controller.Controller.give.Given as goal
 

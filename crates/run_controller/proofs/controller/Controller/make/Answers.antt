@@ -1,6 +1,5 @@
-use Rattle.std.proofs.Common.{◌≡◌, ◌*◌, List, length, arith, ap}
 use Rattle.plan_reader.specs.Ranges.{commands_of}
-use Rattle.steer_base.specs.declared.command.Command.{Command}
+use Rattle.run_controller.proofs.Names.{◌≡◌, ◌*◌, List, length, arith, ap, Command}
 use Rattle.run_controller.proofs.RoomLemmas.{few_commands, few_tries}
 use Rattle.run_controller.proofs.controller.Controller.make.Goals as goal
 

@@ -1,9 +1,6 @@
-use Rattle.std.proofs.Common.{◌≡◌, ℕ, length, ap, sym, subst, arith}
 use Rattle.steer_base.specs.Journals.{Journal}
-use Rattle.steer_base.specs.declared.command.Command.{Command}
-use Rattle.history.specs.declared.commanded.Commanded.{Commanded}
-use Rattle.run_controller.specs.Journals.{IsGivenOnce}
-use Rattle.run_controller.specs.Stages.{IsNamed, stage}
+use Rattle.run_controller.proofs.Names.{◌≡◌, ℕ, length, ap, sym, subst, arith, Command, Commanded}
+use Rattle.run_controller.proofs.Names.{IsGivenOnce, IsNamed, stage}
 use Rattle.run_controller.proofs.RoomLemmas.{Ran, has_room, named_at, ran_all, ran_more, ran_none}
 use Rattle.run_controller.proofs.controller.Controller.run.Goals as goal
 
