@@ -1,28 +1,19 @@
 -- Delivery in order of a history.
-use Rattle.std.proofs.Common.{◌≡◌, ℕ, ◌==◌, ◌&&◌, ◌||◌, Bool, List, [], ◌∷◌, map, sym, refl, ap}
-use Rattle.std.proofs.Common.{◌∙◌, subst, eq-eqb, ne_eqb}
-use Rattle.std.specs.List.{list_any}
+use Rattle.std.proofs.Common.{◌||◌, eq-eqb, ne_eqb}
 use mathlib.Core.Logic.{dite}
 use native.Mathlib.Decide.{ℕ_discrete}
 use Rattle.steer_base.specs.Apps.{app_of}
-use Rattle.steer_base.specs.Orders.{InOrder}
-use Rattle.steer_base.specs.declared.put.LaneDrop.{LaneDrop}
-use Rattle.history.specs.Finding.{is_in}
-use Rattle.history.specs.Lists.{arrivals_at, list_at}
-use Rattle.history.specs.declared.lane_list.LaneList.{LaneList}
 use Rattle.history.proofs.FindingLemmas.{is_in-here, is_in-past}
-use Rattle.hop_rule.specs.declared.sizes.BoardSizes.{BoardSizes}
-use Rattle.hop_rule.specs.declared.step.BoardStep.{BoardStep}
-use Rattle.board_api.specs.declared.lists.BoardLists.{BoardLists}
 use Rattle.hop_delivery.specs.Orders.DeliveryLaw.{came_by}
-use Rattle.hop_delivery.specs.Orders.ReceiveSettings.{receive_steering}
-use Rattle.hop_delivery.specs.Orders.Runs.{IsSteering, Steering}
+use Rattle.hop_delivery.specs.Orders.Runs.{IsSteering}
 use Rattle.hop_delivery.specs.Closings.FlowLaw.{FlowsAreInOrder}
 use Rattle.steer_model.specs.Good.Deliveries.{of_flow}
-use Rattle.steer_model.specs.Good.Inputs.{Input, setup_in}
-use Rattle.steer_model.specs.State.Setup.{app_for, flow_number_of}
 use Rattle.run_goodness.specs.Laws.Orders.{InboxesFollow}
-use Rattle.run_coupling.specs.Coupling.Inputs.{receive_queues}
+use Rattle.run_goodness.proofs.Names.{◌≡◌, ℕ, ◌==◌, ◌&&◌, Bool, List, [], ◌∷◌, map, sym, refl, ap}
+use Rattle.run_goodness.proofs.Names.{◌∙◌, subst, list_any, InOrder, LaneDrop, is_in, arrivals_at}
+use Rattle.run_goodness.proofs.Names.{list_at, LaneList, BoardSizes, BoardStep, BoardLists}
+use Rattle.run_goodness.proofs.Names.{receive_steering, Steering, Input, setup_in, app_for}
+use Rattle.run_goodness.proofs.Names.{flow_number_of, receive_queues}
 
 pub any-is : (y : ℕ) (xs : List ℕ) → list_any (λ z. z == y) xs ≡ is_in y xs
 any-is y [] = refl

@@ -1,18 +1,7 @@
 -- One count makes the totals equal: each number of a chain is at most the next, and the first is
 -- the last.
-use Rattle.std.proofs.Common.{◌≡◌, ℕ, ◌+◌, ◌≤◌, List, length, map, length-append}
-use Rattle.std.proofs.Common.{ap, ◌∙◌, arith}
-use Rattle.std.proofs.lemmas.List.{length-map}
-use Rattle.history.specs.Lists.{lane_at, list_at}
-use Rattle.history.specs.declared.history.History.{History}
-use Rattle.history.specs.declared.sent.Sent.{Sent}
 use Rattle.hop_rule.specs.Events.{sum_below}
-use Rattle.hop_rule.specs.declared.sizes.BoardSizes.{BoardSizes}
-use Rattle.hop_rule.specs.declared.step.BoardStep.{BoardStep}
 use Rattle.hop_rule.proofs.Gates.{sum_same}
-use Rattle.board_api.specs.Closings.Closings.{own_in}
-use Rattle.board_api.specs.declared.lists.BoardLists.{BoardLists}
-use Rattle.hop_delivery.specs.Orders.Runs.{Execution}
 use Rattle.run_coupling.specs.Laws.OneCount.{KeepsCounts, OneCountSuffices}
 use Rattle.run_coupling.specs.Laws.OneCount.{TotalsAreEqual, choice_count, delivered_count}
 use Rattle.run_coupling.specs.Laws.OneCount.{dropped_count}
@@ -20,7 +9,11 @@ use Rattle.run_coupling.specs.Coupling.Ends.{accepted_count, retired_count}
 use Rattle.run_coupling.proofs.Ends.PutCountLemmas.{puts-are-chosen}
 use Rattle.run_coupling.proofs.Ends.TotalLemmas.{all-delivered}
 use Rattle.run_coupling.proofs.Lists.SumLemmas.{sum-le}
-use Rattle.run_coupling.proofs.Runs.FactLemmas.{BoardFacts, facts_at_closings}
+use Rattle.run_coupling.proofs.Runs.FactLemmas.{facts_at_closings}
+use Rattle.run_goodness.proofs.Names.{◌≡◌, ℕ, ◌+◌, ◌≤◌, List, length, map, length-append, ap, ◌∙◌}
+use Rattle.run_goodness.proofs.Names.{arith, length-map, lane_at, list_at, History, Sent}
+use Rattle.run_goodness.proofs.Names.{BoardSizes, BoardStep, own_in, BoardLists, Execution}
+use Rattle.run_goodness.proofs.Names.{BoardFacts}
 
 -- of a lane's packets, no more were retired than delivered and accepted
 module _ (about : BoardSizes) (own : ℕ → List BoardStep) (lists : BoardLists)

@@ -1,17 +1,10 @@
 -- An application that replied to a front of its inbox and as often as packets were delivered to it
 -- replied to the whole.
-use Rattle.std.proofs.Common.{◌≡◌, ℕ, List, [], ◌∷◌, ◌++◌, length, map, length-append, sym, refl}
-use Rattle.std.proofs.Common.{ap}
-use Rattle.std.proofs.Common.{◌∙◌, arith}
-use Rattle.std.proofs.lemmas.List.{length-map}
-use Rattle.steer_base.specs.declared.choice.Chosen.{Chosen}
-use Rattle.history.specs.Lists.{list_at}
-use Rattle.history.specs.declared.sent.Sent.{Sent}
-use Rattle.hop_rule.specs.declared.sizes.BoardSizes.{BoardSizes}
-use Rattle.hop_rule.specs.declared.step.BoardStep.{BoardStep}
 use Rattle.board_api.specs.Laws.Lanes.{OutsAreSums}
-use Rattle.board_api.specs.declared.lists.BoardLists.{BoardLists}
 use Rattle.run_coupling.specs.Laws.Ends.{AllAreSent, RepliesKeepChoices}
+use Rattle.run_goodness.proofs.Names.{◌≡◌, ℕ, List, [], ◌∷◌, ◌++◌, length, map, length-append, sym}
+use Rattle.run_goodness.proofs.Names.{refl, ap, ◌∙◌, arith, length-map, Chosen, list_at, Sent}
+use Rattle.run_goodness.proofs.Names.{BoardSizes, BoardStep, BoardLists}
 
 none-of : {A : Type 0} (xs : List A) → length xs ≡ 0 → xs ≡ []
 none-of [] e = refl

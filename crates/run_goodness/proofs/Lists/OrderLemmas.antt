@@ -1,16 +1,15 @@
 -- Order from end to end, on lists: what arrived, what an out lane has, what was replied to, and
 -- what
 -- is on the port.
-use Rattle.std.proofs.Common.{◌≡◌, inl, inr, ℕ, suc, ◌&&◌, Bool, true, false, not, List, []}
-use Rattle.std.proofs.Common.{◌∷◌, ◌++◌, get_or, sym, refl, ap, ◌∙◌, append_assoc}
 use Rattle.std.specs.Prelude.{if◌then◌else◌}
 use Rattle.std.specs.List.{filter}
 use Rattle.std.proofs.lemmas.Bool.{cases_eq}
 use Rattle.std.proofs.lemmas.List.Elements.{filter-append, filter_agree}
-use Rattle.steer_base.specs.Orders.{InOrder, IsPrefix, was_dropped}
-use Rattle.steer_base.specs.declared.put.LaneDrop.{LaneDrop}
-use Rattle.history.specs.Finding.{is_in}
+use Rattle.steer_base.specs.Orders.{IsPrefix, was_dropped}
 use Rattle.history.proofs.FindingLemmas.{is_in-here, is_in-past}
+use Rattle.run_goodness.proofs.Names.{◌≡◌, inl, inr, ℕ, suc, ◌&&◌, Bool, true, false, not, List, []}
+use Rattle.run_goodness.proofs.Names.{◌∷◌, ◌++◌, get_or, sym, refl, ap, ◌∙◌, append_assoc, InOrder}
+use Rattle.run_goodness.proofs.Names.{LaneDrop, is_in}
 
 prefix_through : (xs ys zs : List ℕ) → IsPrefix xs ys → IsPrefix ys zs → IsPrefix xs zs
 prefix_through xs ys zs a b =

@@ -1,31 +1,20 @@
 -- A run is good: the eleven clauses together.
-use Rattle.std.proofs.Common.{◌≡◌, inl, inr, ℕ, true, List, [], ◌∷◌, ◌++◌, Option, Some, None}
-use Rattle.std.proofs.Common.{length}
-use Rattle.std.proofs.Common.{All, map, sym, refl, ap, ◌∙◌, get_or}
-use Rattle.std.proofs.lemmas.List.Elements.{All-from_get_or}
-use Rattle.std.proofs.lemmas.Option.{slice_get-get_or}
 use Rattle.steer_base.specs.declared.command.Answer.{Answer}
 use Rattle.steer_base.specs.declared.command.Answer.TheVariants as says
-use Rattle.steer_base.specs.declared.command.Command.{Command}
 use Rattle.steer_base.specs.declared.command.Command.TheVariants as give
-use Rattle.steer_base.specs.declared.command.Refused.{Refused}
 use Rattle.steer_base.specs.declared.command.Refused.TheVariants as refused
-use Rattle.steer_base.specs.declared.choice.Chosen.{Chosen}
-use Rattle.history.specs.Lists.{list_at}
 use Rattle.history.specs.Regular.{AreMatched, AreReplies, Regular, has_text}
-use Rattle.history.specs.declared.commanded.Commanded.{Commanded}
-use Rattle.history.specs.declared.history.History.{History}
-use Rattle.hop_rule.specs.declared.step.BoardStep.{BoardStep}
-use Rattle.board_api.specs.Closings.Closings.{own_in}
-use Rattle.steer_model.specs.Good.Commands.{IsAnswer, IsEnd, refused_with}
+use Rattle.steer_model.specs.Good.Commands.{IsAnswer, IsEnd}
 use Rattle.steer_model.specs.Good.Deliveries.{IsSteered}
 use Rattle.steer_model.specs.Good.GoodHistory.{Good}
-use Rattle.steer_model.specs.Good.Inputs.{Input, settings_at}
 use Rattle.steer_model.specs.Good.Replies.{RepliesAreByRule}
-use Rattle.run_coupling.specs.Laws.Choices.{commands_before}
 use Rattle.run_goodness.specs.Laws.GoodRuns.{RunsAreGood}
-use Rattle.run_coupling.specs.Laws.Replies.{RepliesAreBy, commands_before_reply}
-use Rattle.run_coupling.specs.Coupling.Runs.{IsRun}
+use Rattle.run_goodness.proofs.Names.{◌≡◌, inl, inr, ℕ, true, List, [], ◌∷◌, ◌++◌, Option, Some}
+use Rattle.run_goodness.proofs.Names.{None, length, All, map, sym, refl, ap, ◌∙◌, get_or}
+use Rattle.run_goodness.proofs.Names.{All-from_get_or, slice_get-get_or, Command, Refused, Chosen}
+use Rattle.run_goodness.proofs.Names.{list_at, Commanded, History, BoardStep, own_in, refused_with}
+use Rattle.run_goodness.proofs.Names.{Input, settings_at, commands_before, RepliesAreBy}
+use Rattle.run_goodness.proofs.Names.{commands_before_reply, IsRun}
 use Rattle.run_goodness.proofs.Runs.HintLemmas as hints
 use Rattle.run_goodness.proofs.Runs.ReceiveLemmas as receives
 use Rattle.run_goodness.proofs.Runs.RunLemmas as runs

@@ -1,24 +1,16 @@
 -- What the hint words tell of a run: where arrivals, wants, replies and writes come from.
-use Rattle.std.proofs.Common.{◌≡◌, ◌≢◌, inl, inr, ℕ, zero, suc, ◌/◌, ◌^◌, ◌<◌, List, []}
-use Rattle.std.proofs.Common.{◌∷◌, ◌++◌, Option, Some, None, length, map, All, sym, refl, ap, ◌∙◌}
-use Rattle.std.proofs.Common.{subst}
-use Rattle.std.proofs.Common.{arith, get_or, ◌%◌, ◌≤◌, Bool, if◌then◌else◌}
 use Rattle.std.specs.List.{Contains}
 use Rattle.std.specs.Option.{option_map}
 use Rattle.std.proofs.Math.ListN.{get_or-eq_default}
 use Rattle.std.proofs.Math.Nat.{mod-lt}
-use Rattle.std.proofs.lemmas.Bool.{cases_lt, le-leb, lt-ltb}
-use Rattle.std.proofs.lemmas.List.Elements.{All-from_get_or}
-use Rattle.std.proofs.lemmas.Option.{slice_get-map}
-use Rattle.hop_rule.proofs.Lists.{none-some, some-is}
-use Rattle.std.specs.Prelude.{is_some, slice_get}
+use Rattle.std.proofs.lemmas.Bool.{cases_lt, le-leb}
 use Rattle.std.proofs.lemmas.List.Elements.{All-cons, All-contains, All-head, All-nil, All-tail}
-use Rattle.std.proofs.lemmas.Option.{slice_get-get_or}
+use Rattle.std.proofs.lemmas.Option.{slice_get-map}
+use Rattle.std.specs.Prelude.{is_some}
 use Rattle.linearization.specs.Seats.{SeatView}
 use Rattle.steer_base.specs.Arrivals.{filter_place, table_place}
 use Rattle.steer_base.specs.Choices.{class_of}
 use Rattle.steer_base.specs.Entries.{place_in}
-use Rattle.steer_base.specs.declared.choice.Chosen.{Chosen}
 use Rattle.steer_base.specs.declared.put.Put.{Put}
 use Rattle.steer_base.specs.declared.put.Put.TheVariants.{At}
 use Rattle.dev_flow_table.specs.Folds.{IsPutAt}
@@ -27,41 +19,32 @@ use Rattle.hint_words.specs.Loads.{ComesFrom, IsStoredBy, LoadsAreStored}
 use Rattle.hint_words.proofs.Sources.{loads_are_stored}
 use Rattle.hint_words.specs.declared.step.HintStep.{HintStep}
 use Rattle.hint_words.specs.declared.step.HintStep.TheVariants.{Load}
-use Rattle.history.specs.Finding.{is_in}
-use Rattle.history.specs.Lists.{arrival_of, lane_at, list_at}
+use Rattle.history.specs.Lists.{arrival_of}
 use Rattle.history.specs.declared.arrival.Arrival.{Arrival}
-use Rattle.history.specs.declared.history.History.{History}
-use Rattle.history.specs.declared.lane_list.LaneList.{LaneList}
-use Rattle.history.specs.declared.sent.Sent.{Sent}
 use Rattle.history.specs.declared.sock_write.SockWrite.{SockWrite}
-use Rattle.hop_model.specs.Hop.{chosen_at, nobody}
-use Rattle.hop_rule.specs.Moments.{nth_step}
 use Rattle.hop_rule.proofs.Moments.{nth-first}
-use Rattle.hop_rule.specs.declared.step.BoardStep.{BoardStep}
-use Rattle.board_api.specs.Closings.Closings.{own_in}
 use Rattle.board_api.specs.OwnSteps.{visit_before}
-use Rattle.hop_delivery.specs.Closings.FlowLaw.{accepted_left}
 use Rattle.hop_delivery.specs.Orders.Commands.{received_sets}
 use Rattle.hop_delivery.specs.Orders.ReceiveSettings.{socket_word}
-use Rattle.hop_delivery.specs.Orders.Runs.{turns_of, word_of}
-use Rattle.hop_delivery.specs.Orders.Turns.{Turn}
 use Rattle.steer_model.specs.Good.Arrivals.{FilterFrom, QueuesAreSeen, SeenBy}
 use Rattle.steer_model.specs.Good.Choices.{WantsAreWritten, WasWritten}
-use Rattle.steer_model.specs.Good.Inputs.{Input, settings_at, setup_in}
 use Rattle.steer_model.specs.Good.Writes.{AreWrites, IsSize, StoodAt, WritesAreRight}
-use Rattle.steer_model.specs.State.Settings.{Settings}
-use Rattle.steer_model.specs.State.Setup.{packet_hash}
-use Rattle.steer_model.specs.State.Start.{initial_settings}
-use Rattle.run_coupling.specs.Laws.Choices.{commands_before}
-use Rattle.run_coupling.specs.Coupling.Answers.{AllAnswered}
 use Rattle.run_words.specs.Values.{socket_size_in}
 use Rattle.run_coupling.specs.Coupling.Hints.{AreRecorded, CameBy, IsRouted, LookedUp, Says, Stands}
 use Rattle.run_coupling.specs.Coupling.Hints.{WasFiltered, WasLoaded, WasRead, WordSaid, entry_of}
-use Rattle.run_coupling.specs.Coupling.Inputs.{receive_queues}
-use Rattle.run_coupling.specs.Coupling.Runs.{IsRun}
-use Rattle.run_coupling.specs.Coupling.Tries.{Try, at_receive, settings_by, tries_up_to}
-use Rattle.run_coupling.proofs.Runs.PutTurnLemmas.{put-of, turn-at}
+use Rattle.run_coupling.proofs.Runs.PutTurnLemmas.{put-of}
 use Rattle.run_coupling.proofs.Runs.QueueLemmas as queues
+use Rattle.run_goodness.proofs.Names.{◌≡◌, ◌≢◌, inl, inr, ℕ, zero, suc, ◌/◌, ◌^◌, ◌<◌, List, []}
+use Rattle.run_goodness.proofs.Names.{◌∷◌, ◌++◌, Option, Some, None, length, map, All, sym, refl}
+use Rattle.run_goodness.proofs.Names.{ap, ◌∙◌, subst, arith, get_or, ◌%◌, ◌≤◌, Bool, if◌then◌else◌}
+use Rattle.run_goodness.proofs.Names.{lt-ltb, All-from_get_or, none-some, some-is, slice_get}
+use Rattle.run_goodness.proofs.Names.{slice_get-get_or, Chosen, is_in, lane_at, list_at, History}
+use Rattle.run_goodness.proofs.Names.{LaneList, Sent, chosen_at, nobody, nth_step, BoardStep}
+use Rattle.run_goodness.proofs.Names.{own_in, accepted_left, turns_of, word_of, Turn, Input}
+use Rattle.run_goodness.proofs.Names.{settings_at, setup_in, Settings, packet_hash}
+use Rattle.run_goodness.proofs.Names.{initial_settings, commands_before, AllAnswered}
+use Rattle.run_goodness.proofs.Names.{receive_queues, IsRun, Try, at_receive, settings_by}
+use Rattle.run_goodness.proofs.Names.{tries_up_to, turn-at}
 use Rattle.run_goodness.proofs.Runs.RunLemmas as runs
 use Rattle.run_coupling.proofs.Runs.TurnListLemmas.{turn-chosen}
 use Rattle.run_coupling.proofs.Tries.OpeningLemmas.{settings_of_opening}

@@ -1,43 +1,30 @@
 -- The receive side of a good history, from what the threads keep at the receive board.
-use Rattle.std.proofs.Common.{◌≡◌, ℕ, suc, ◌<◌, true}
-use Rattle.std.proofs.Common.{List, [], ◌∷◌, ◌++◌, Some, length, map, take, All}
-use Rattle.std.proofs.Common.{sym, refl, ap, ◌∙◌, subst, arith}
-use Rattle.std.specs.Prelude.{slice_get, slice_index}
-use Rattle.std.proofs.lemmas.List.{length-map}
+use Rattle.std.specs.Prelude.{slice_index}
 use Rattle.std.proofs.Math.Seq.{take_all}
-use Rattle.steer_base.specs.declared.choice.Chosen.{Chosen}
-use Rattle.history.specs.Finding.{is_among, is_in}
-use Rattle.history.specs.Lists.{accepted_lists, app_at, arrivals_at, drop_ids, dropped_lists}
-use Rattle.history.specs.Lists.{lane_at, list_at}
+use Rattle.history.specs.Finding.{is_among}
+use Rattle.history.specs.Lists.{accepted_lists, app_at, drop_ids, dropped_lists}
 use Rattle.history.specs.Places.{AreInOnePlace}
 use Rattle.history.specs.Regular.{AreDelivered, AreSteered, HaveArrived}
-use Rattle.history.specs.declared.history.History.{History}
 use Rattle.hop_rule.specs.Sizes.{puller}
-use Rattle.hop_rule.specs.declared.sizes.BoardSizes.{BoardSizes}
-use Rattle.hop_rule.specs.declared.step.BoardStep.{BoardStep}
-use Rattle.board_api.specs.declared.lists.BoardLists.{BoardLists}
-use Rattle.hop_delivery.specs.Closings.FlowLaw.{accepted_left}
 use Rattle.hop_delivery.specs.Orders.Premises.{MeetsPremises}
-use Rattle.hop_delivery.specs.Orders.ReceiveSettings.{receive_steering}
-use Rattle.hop_delivery.specs.Orders.Runs.{Execution}
 use Rattle.hop_delivery.proofs.Orders.ReceiveSettingLemmas.{receive_steers}
 use Rattle.steer_model.specs.Good.Choices.{ChoicesAreByRule}
 use Rattle.steer_model.specs.Good.Deliveries.{IsDeliveredInOrder}
-use Rattle.steer_model.specs.Good.Inputs.{Input, setup_in}
-use Rattle.steer_model.specs.State.Setup.{app_for}
-use Rattle.run_coupling.specs.Laws.Choices.{ChoicesHaveTurns, commands_before}
-use Rattle.run_coupling.specs.Coupling.Inputs.{receive_queues}
+use Rattle.run_coupling.specs.Laws.Choices.{ChoicesHaveTurns}
 use Rattle.run_coupling.specs.Coupling.Runs.{IsOfInput, KeepsCommands, ReceiveCoupling}
-use Rattle.run_coupling.specs.Coupling.Tries.{Try}
 use Rattle.hop_delivery.specs.Closings.PutPlaces.{AreTurnsOf}
+use Rattle.run_goodness.proofs.Names.{◌≡◌, ℕ, suc, ◌<◌, true, List, [], ◌∷◌, ◌++◌, Some, length}
+use Rattle.run_goodness.proofs.Names.{map, take, All, sym, refl, ap, ◌∙◌, subst, arith, slice_get}
+use Rattle.run_goodness.proofs.Names.{length-map, Chosen, is_in, arrivals_at, lane_at, list_at}
+use Rattle.run_goodness.proofs.Names.{History, BoardSizes, BoardStep, BoardLists, accepted_left}
+use Rattle.run_goodness.proofs.Names.{receive_steering, Execution, Input, setup_in, app_for}
+use Rattle.run_goodness.proofs.Names.{commands_before, receive_queues, Try, StandOnce, at_in}
+use Rattle.run_goodness.proofs.Names.{BoardFacts, IsWithinPlan}
 use Rattle.run_goodness.proofs.Ends.InboxLemmas.{inboxes_follow}
-use Rattle.run_coupling.proofs.Lists.PlaceLemmas.{AreNumbered, StandOnce, apart_from, at_in}
-use Rattle.run_coupling.proofs.Lists.PlaceLemmas.{once_from}
-use Rattle.run_coupling.proofs.Runs.FactLemmas.{BoardFacts}
+use Rattle.run_coupling.proofs.Lists.PlaceLemmas.{AreNumbered, apart_from, once_from}
 use Rattle.run_coupling.proofs.Runs.QueueLemmas as queues
 use Rattle.run_coupling.proofs.Runs.StandLemmas as stand
 use Rattle.run_coupling.proofs.Tries.GivenLemmas.{all_within}
-use Rattle.run_coupling.proofs.Tries.RangeLemmas.{IsWithinPlan}
 use Rattle.run_goodness.proofs.Turns.ChoiceLemmas.{choices_of_closing}
 
 module _ (i : Input) (h : History) (about : BoardSizes) (own : ℕ → List BoardStep)

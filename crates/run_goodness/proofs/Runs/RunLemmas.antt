@@ -1,55 +1,44 @@
 -- A run is good but for what the hint words tell: from all that its threads keep.
-use Rattle.std.proofs.Common.{◌≡◌, ◌⊎◌, inl, inr, ℕ, zero, suc, ◌<◌, ◌≤◌, ◌==◌, ◌&&◌}
-use Rattle.std.proofs.Common.{Bool, true, false, List, [], ◌∷◌, Option, Some, length, map}
-use Rattle.std.proofs.Common.{All, sym, refl, ap, ◌∙◌, subst, arith, get_or}
-use Rattle.std.specs.Prelude.{slice_get}
 use Rattle.std.proofs.lemmas.Bool.{cases_Bool, eqb-true}
-use Rattle.std.proofs.lemmas.List.{length-map}
-use Rattle.std.proofs.lemmas.Option.{slice_get_within, slice_get-get_or}
+use Rattle.std.proofs.lemmas.Option.{slice_get_within}
 use Rattle.std.proofs.Math.ListN.{get_or-eq_default}
 use Rattle.steer_base.specs.Apps.{app_of}
-use Rattle.steer_base.specs.declared.choice.Chosen.{Chosen}
-use Rattle.steer_base.specs.declared.put.LaneDrop.{LaneDrop}
 use Rattle.steer_base.specs.declared.put.Put.{Put}
-use Rattle.history.specs.Finding.{is_in}
-use Rattle.history.specs.Lists.{arrivals_at, drop_ids, lane_at, list_at}
-use Rattle.history.specs.declared.history.History.{History}
-use Rattle.history.specs.declared.lane_list.LaneList.{LaneList}
-use Rattle.hop_model.specs.Hop.{nobody}
-use Rattle.hop_rule.specs.Moments.{nth_step}
+use Rattle.history.specs.Lists.{drop_ids}
 use Rattle.hop_rule.specs.Owns.{PutMade}
 use Rattle.hop_rule.specs.Sizes.{puller}
-use Rattle.hop_rule.specs.declared.step.BoardStep.{BoardStep}
-use Rattle.board_api.specs.Closings.Closings.{own_in}
-use Rattle.board_api.specs.OwnSteps.{Has, put_step}
+use Rattle.board_api.specs.OwnSteps.{put_step}
 use Rattle.hop_delivery.specs.Orders.TransmitSettings.{transmit_steering}
-use Rattle.hop_delivery.specs.Orders.ReceiveSettings.{receive_steering}
 use Rattle.steer_model.specs.Good.Choices.{HeadsAreRising, HeadsRise}
 use Rattle.steer_model.specs.Good.Commands.{CommandsAreGiven}
 use Rattle.steer_model.specs.Good.Deliveries.{IsDone, IsSwept, of_flow}
 use Rattle.steer_model.specs.Good.Drops.{DropsAreExplained}
 use Rattle.steer_model.specs.Good.Arrivals.{HasArrived}
-use Rattle.steer_model.specs.Good.Inputs.{Input, setup_in}
 use Rattle.steer_model.specs.Good.Replies.{LeaveInOrder, of_reply, replies_of}
-use Rattle.steer_model.specs.State.Setup.{app_for, flow_number_of, packet_hash}
-use Rattle.run_coupling.specs.Coupling.Inputs.{hash_of_flow, receive_queues}
-use Rattle.run_coupling.specs.Coupling.Runs.{IsRun}
-use Rattle.run_coupling.specs.Coupling.Tries.{Try}
+use Rattle.run_coupling.specs.Coupling.Inputs.{hash_of_flow}
 use Rattle.hop_delivery.specs.Closings.PutPlaces.{AreTurnsOf}
 use Rattle.run_coupling.proofs.Ends.EndLemmas as ends
 use Rattle.run_coupling.specs.Coupling.Ends.{AllReplied, AllRetired}
+use Rattle.run_goodness.proofs.Names.{◌≡◌, ◌⊎◌, inl, inr, ℕ, zero, suc, ◌<◌, ◌≤◌, ◌==◌, ◌&&◌, Bool}
+use Rattle.run_goodness.proofs.Names.{true, false, List, [], ◌∷◌, Option, Some, length, map, All}
+use Rattle.run_goodness.proofs.Names.{sym, refl, ap, ◌∙◌, subst, arith, get_or, slice_get}
+use Rattle.run_goodness.proofs.Names.{length-map, slice_get-get_or, Chosen, LaneDrop, is_in}
+use Rattle.run_goodness.proofs.Names.{arrivals_at, lane_at, list_at, History, LaneList, nobody}
+use Rattle.run_goodness.proofs.Names.{nth_step, BoardStep, own_in, Has, receive_steering, Input}
+use Rattle.run_goodness.proofs.Names.{setup_in, app_for, flow_number_of, packet_hash}
+use Rattle.run_goodness.proofs.Names.{receive_queues, IsRun, Try, StandOnce, at_in, BoardFacts}
+use Rattle.run_goodness.proofs.Names.{turn-at, IsWithinPlan}
 use Rattle.run_goodness.proofs.Ends.OutLemmas.{all_are_sent}
 use Rattle.run_coupling.proofs.Ends.TotalLemmas.{replies_suffice}
 use Rattle.run_goodness.proofs.Lists.OrderLemmas.{end_to_end}
-use Rattle.run_coupling.proofs.Lists.PlaceLemmas.{StandOnce, arrived_somewhere, at_in, in_at}
-use Rattle.run_coupling.proofs.Runs.FactLemmas.{BoardFacts, facts_at_closings}
-use Rattle.run_coupling.proofs.Runs.PutTurnLemmas.{put-of, turn-at}
+use Rattle.run_coupling.proofs.Lists.PlaceLemmas.{arrived_somewhere, in_at}
+use Rattle.run_coupling.proofs.Runs.FactLemmas.{facts_at_closings}
+use Rattle.run_coupling.proofs.Runs.PutTurnLemmas.{put-of}
 use Rattle.run_goodness.proofs.Runs.ReceiveLemmas as receives
 use Rattle.run_coupling.proofs.Runs.StandLemmas as stand
 use Rattle.run_goodness.proofs.Runs.TransmitLemmas as transmits
 use Rattle.run_goodness.proofs.Tries.AnswerLemmas.{commands_follow}
 use Rattle.run_goodness.proofs.Tries.BusyLemmas.{busy_lanes}
-use Rattle.run_coupling.proofs.Tries.RangeLemmas.{IsWithinPlan}
 use Rattle.run_goodness.proofs.Turns.HeadLemmas.{heads_of_closing}
 use Rattle.hop_delivery.proofs.Closings.PutPlaceLemmas.{said, turn_of, turns_put_once}
 use Rattle.run_coupling.proofs.Turns.TableLemmas.{drops_follow}

@@ -1,68 +1,47 @@
 -- The transmit side of a good history, from what the threads keep at the transmit board.
-use Rattle.std.proofs.Common.{◌≡◌, ◌≢◌, ℕ, ◌-◌, ◌<◌, ◌≤◌, ◌==◌, ◌&&◌}
-use Rattle.std.proofs.Common.{Bool, true, false, List, [], ◌∷◌, Option, Some, None, length}
-use Rattle.std.proofs.Common.{map, All, if◌then◌else◌, sym, refl, ap, ◌∙◌, subst, arith, get_or}
-use Rattle.std.specs.Prelude.{IsSome, drop, nat_lt, slice_get, take}
-use Rattle.std.specs.List.{list_any}
+use Rattle.std.specs.Prelude.{IsSome, drop, nat_lt, take}
 use Rattle.std.specs.Option.{option_map, unwrap_or}
 use Rattle.std.proofs.lemmas.Bool.{ne_eqb}
-use Rattle.std.proofs.lemmas.List.Elements.{All-from_get_or}
-use Rattle.std.proofs.lemmas.Option.{slice_get-get_or}
 use Rattle.steer_base.specs.Drops.{bucket_count, bucket_of, cause_by, flow_cause, lane_drop_cause}
-use Rattle.steer_base.specs.Entries.{entry}
 use Rattle.steer_base.specs.Lanes.{LaneLists}
-use Rattle.steer_base.specs.declared.choice.Entry.{Entry}
-use Rattle.dev_flow_table.specs.Walks.{since_resize}
-use Rattle.steer_base.specs.Orders.{Apart, InOrder, IsPrefix}
-use Rattle.steer_base.specs.Sets.{has}
-use Rattle.steer_base.specs.declared.choice.Choice.{Choice}
-use Rattle.steer_base.specs.declared.choice.Chosen.{Chosen}
+use Rattle.steer_base.specs.Orders.{Apart, IsPrefix}
 use Rattle.steer_base.specs.declared.cpu_mask.CpuMask.{CpuMask}
 use Rattle.steer_base.specs.declared.put.DropCause.{DropCause}
-use Rattle.steer_base.specs.declared.put.LaneDrop.{LaneDrop}
 use Rattle.steer_base.proofs.MasksLemmas.{has-first_cpus}
 use Rattle.steer_base.proofs.RuleLemmas.{by_entry-class}
 use Rattle.backlog.specs.Puts.{put_count}
-use Rattle.history.specs.Finding.{Once, is_among, is_in}
-use Rattle.history.specs.Lists.{accepted_lists, lane_at, list_at, packet_at}
+use Rattle.history.specs.Finding.{Once, is_among}
+use Rattle.history.specs.Lists.{accepted_lists, packet_at}
 use Rattle.history.specs.Regular.{AreShipped}
-use Rattle.history.specs.declared.history.History.{History}
-use Rattle.history.specs.declared.lane_list.LaneList.{LaneList}
-use Rattle.hop_model.specs.Hop.{nobody}
-use Rattle.hop_rule.specs.Sizes.{closer}
-use Rattle.hop_rule.specs.declared.sizes.BoardSizes.{BoardSizes}
-use Rattle.hop_rule.specs.declared.step.BoardStep.{BoardStep}
-use Rattle.hop_rule.specs.declared.step.BoardStep.TheVariants.{Lane, Gate, Weighed, Counted}
-use Rattle.hop_rule.specs.declared.step.BoardStep.TheVariants.{OutCounted, LaneOut, LaneIn}
-use Rattle.hop_rule.specs.declared.step.GateStep.TheVariants.{Entered, Turned, Left, Shut, NotShut}
-use Rattle.hop_rule.specs.declared.step.GateStep.TheVariants.{Opened, Set, Read}
-use Rattle.hop_rule.proofs.Lists.{none-some, some-is}
-use Rattle.board_api.specs.declared.lists.BoardLists.{BoardLists}
-use Rattle.hop_delivery.specs.Closings.FlowLaw.{accepted_left}
+use Rattle.hop_rule.specs.declared.step.BoardStep.TheVariants.{Lane, OutCounted, LaneOut, LaneIn}
+use Rattle.hop_rule.specs.declared.step.GateStep.TheVariants.{Entered, Turned, Left, NotShut, Set}
+use Rattle.hop_rule.specs.declared.step.GateStep.TheVariants.{Read}
 use Rattle.hop_delivery.specs.Orders.DeliveryLaw.{came_by}
 use Rattle.hop_delivery.specs.Orders.Premises.{AllFindEmpty, FindsEmpty, GoesRight, MeetsPremises}
 use Rattle.hop_rule.specs.declared.step.LaneStep.TheVariants.{Freed, Given, Held, Missed}
 use Rattle.hop_rule.specs.declared.step.LaneStep.TheVariants.{OutFreed, OutHeld, OutMissed}
 use Rattle.hop_rule.specs.declared.step.LaneStep.TheVariants.{Retired}
-use Rattle.board_api.specs.OwnSteps.{Has}
 use Rattle.run_coupling.proofs.Ends.TotalLemmas.{all-by-number}
-use Rattle.hop_delivery.specs.Orders.Runs.{Steering, Execution}
 use Rattle.hop_delivery.specs.Orders.TransmitSettings.{transmit_steering}
 use Rattle.hop_delivery.proofs.Orders.TransmitSettingLemmas.{transmit_steers}
-use Rattle.steer_model.specs.Good.Inputs.{Input, setup_in}
 use Rattle.steer_model.specs.Good.Replies.{AreInOneTxPlace, of_reply, replies_of}
-use Rattle.steer_model.specs.State.Setup.{flow_number_of}
-use Rattle.run_coupling.specs.Laws.Replies.{RepliesAreBy, commands_before_reply}
 use Rattle.run_coupling.specs.Coupling.Runs.{TransmitCoupling}
-use Rattle.run_coupling.specs.Coupling.Tries.{Try}
+use Rattle.run_goodness.proofs.Names.{◌≡◌, ◌≢◌, ℕ, ◌-◌, ◌<◌, ◌≤◌, ◌==◌, ◌&&◌, Bool, true, false}
+use Rattle.run_goodness.proofs.Names.{List, [], ◌∷◌, Option, Some, None, length, map, All}
+use Rattle.run_goodness.proofs.Names.{if◌then◌else◌, sym, refl, ap, ◌∙◌, subst, arith, get_or}
+use Rattle.run_goodness.proofs.Names.{slice_get, list_any, All-from_get_or, slice_get-get_or, entry}
+use Rattle.run_goodness.proofs.Names.{Entry, since_resize, InOrder, has, Choice, Chosen, LaneDrop}
+use Rattle.run_goodness.proofs.Names.{is_in, lane_at, list_at, History, LaneList, nobody, closer}
+use Rattle.run_goodness.proofs.Names.{BoardSizes, BoardStep, Gate, Weighed, Counted, Shut, Opened}
+use Rattle.run_goodness.proofs.Names.{none-some, some-is, BoardLists, accepted_left, Has, Steering}
+use Rattle.run_goodness.proofs.Names.{Execution, Input, setup_in, flow_number_of, RepliesAreBy}
+use Rattle.run_goodness.proofs.Names.{commands_before_reply, Try, StandOnce, at_in, BoardFacts}
+use Rattle.run_goodness.proofs.Names.{turn-at, IsWithinPlan}
 use Rattle.run_goodness.proofs.Ends.InboxLemmas.{any-is}
-use Rattle.run_coupling.proofs.Lists.PlaceLemmas.{StandOnce, apart_from, at_in, once_from}
+use Rattle.run_coupling.proofs.Lists.PlaceLemmas.{apart_from, once_from}
 use Rattle.run_coupling.proofs.Runs.ApplicationLemmas as apps
-use Rattle.run_coupling.proofs.Runs.FactLemmas.{BoardFacts}
-use Rattle.run_coupling.proofs.Runs.PutTurnLemmas.{turn-at}
 use Rattle.run_coupling.proofs.Runs.StandLemmas as stand
 use Rattle.run_coupling.proofs.Runs.TurnListLemmas.{turn-chosen}
-use Rattle.run_coupling.proofs.Tries.RangeLemmas.{IsWithinPlan}
 use Rattle.run_goodness.proofs.Turns.ReplyLemmas.{replies_of_closing}
 
 -- a lane that never gets full and is not limited drops nothing

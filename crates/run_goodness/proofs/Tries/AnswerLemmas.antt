@@ -1,34 +1,20 @@
 -- The answers of the controller.
-use Rattle.std.proofs.Common.{◌≡◌, ◌⊎◌, inl, inr, ℕ, zero, suc, ◌<◌, ◌≤◌, List, [], ◌∷◌, ◌++◌}
-use Rattle.std.proofs.Common.{Option, Some, None, length, take, sym, refl, ap, ◌∙◌, subst, arith}
-use Rattle.std.proofs.Common.{append_assoc}
-use Rattle.std.specs.Prelude.{slice_get}
-use Rattle.steer_base.specs.Counters.{distance}
 use Rattle.steer_base.specs.declared.command.Busy.TheVariants as busy
-use Rattle.steer_base.specs.declared.command.Refused.{Refused}
-use Rattle.history.specs.Lists.{lane_at}
-use Rattle.history.specs.declared.commanded.Commanded.{Commanded}
-use Rattle.history.specs.declared.history.History.{History}
-use Rattle.history.specs.declared.lane_list.LaneList.{LaneList}
-use Rattle.hop_rule.specs.Moments.{nth_step}
-use Rattle.hop_rule.specs.Sizes.{closer}
-use Rattle.hop_rule.specs.declared.sizes.BoardSizes.{BoardSizes}
-use Rattle.hop_rule.specs.declared.step.BoardStep.{BoardStep}
-use Rattle.hop_rule.specs.declared.step.BoardStep.TheVariants.{Counted, Gate, Weighed}
-use Rattle.hop_rule.specs.declared.step.GateStep.TheVariants.{Opened, Shut}
 use Rattle.board_api.specs.Calls.Results.{looking}
-use Rattle.hop_rule.proofs.Lists.{none-some, some-is}
-use Rattle.hop_rule.proofs.Moments.{nth-last, nth-old}
-use Rattle.board_api.specs.declared.lists.BoardLists.{BoardLists}
-use Rattle.steer_model.specs.Good.Commands.{IsAnswer, MayBeBusy, refused_with}
-use Rattle.steer_model.specs.Good.Inputs.{Input, settings_after, settings_at}
-use Rattle.steer_model.specs.State.Settings.{Settings}
-use Rattle.steer_model.specs.State.Start.{initial_settings}
+use Rattle.steer_model.specs.Good.Commands.{IsAnswer, MayBeBusy}
+use Rattle.steer_model.specs.Good.Inputs.{settings_after}
 use Rattle.run_coupling.proofs.Tries.TryLemmas.{given_by, length-given, settings-given, take-given}
 use Rattle.run_goodness.specs.Laws.Commands.{CommandsFollow, IsBoardOf}
-use Rattle.run_coupling.specs.Coupling.Answers.{AllAnswered, FindsOneBusy, IsAnswered}
-use Rattle.run_coupling.specs.Coupling.Tries.{Try, settings_by, steps_of_tries, at_receive}
-use Rattle.run_coupling.specs.Coupling.Tries.{at_transmit}
+use Rattle.run_coupling.specs.Coupling.Answers.{FindsOneBusy}
+use Rattle.run_goodness.proofs.Names.{◌≡◌, ◌⊎◌, inl, inr, ℕ, zero, suc, ◌<◌, ◌≤◌, List, [], ◌∷◌}
+use Rattle.run_goodness.proofs.Names.{◌++◌, Option, Some, None, length, take, sym, refl, ap, ◌∙◌}
+use Rattle.run_goodness.proofs.Names.{subst, arith, append_assoc, slice_get, distance, Refused}
+use Rattle.run_goodness.proofs.Names.{lane_at, Commanded, History, LaneList, nth_step, closer}
+use Rattle.run_goodness.proofs.Names.{BoardSizes, BoardStep, Counted, Gate, Weighed, Opened, Shut}
+use Rattle.run_goodness.proofs.Names.{none-some, some-is, nth-last, nth-old, BoardLists}
+use Rattle.run_goodness.proofs.Names.{refused_with, Input, settings_at, Settings, initial_settings}
+use Rattle.run_goodness.proofs.Names.{AllAnswered, IsAnswered, Try, settings_by, steps_of_tries}
+use Rattle.run_goodness.proofs.Names.{at_receive, at_transmit}
 
 -- ---- the k-th command and its try
 

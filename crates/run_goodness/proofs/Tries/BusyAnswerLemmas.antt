@@ -1,43 +1,33 @@
 -- A busy answer was true at one moment of its board's order.
-use Rattle.std.proofs.Common.{◌≡◌, ◌⊎◌, inl, inr, ℕ, ◌<◌, ◌≤◌, List, [], ◌∷◌, ◌++◌, Option, Some}
-use Rattle.std.proofs.Common.{None, length, refl, sym, ap, ◌∙◌, subst, arith, append_assoc}
-use Rattle.std.specs.Prelude.{slice_get}
 use Rattle.linearization.specs.Orders.{StepBy}
 use Rattle.steer_base.specs.declared.command.Answer.{Answer}
 use Rattle.steer_base.specs.declared.command.Answer.TheVariants as says
 use Rattle.steer_base.specs.declared.command.Busy.{Busy}
 use Rattle.steer_base.specs.declared.command.Busy.TheVariants as busy
-use Rattle.steer_base.specs.declared.command.Command.{Command}
 use Rattle.steer_base.specs.declared.command.Command.TheVariants as give
-use Rattle.steer_base.specs.declared.command.Refused.{Refused}
 use Rattle.steer_base.specs.declared.command.Refused.TheVariants as refused
-use Rattle.history.specs.declared.commanded.Commanded.{Commanded}
-use Rattle.history.specs.declared.history.History.{History}
-use Rattle.history.specs.declared.lane_list.LaneList.{LaneList}
-use Rattle.hop_rule.specs.Moments.{moment_of, nth_step}
-use Rattle.hop_rule.specs.Owns.{own_of}
-use Rattle.hop_rule.specs.Sizes.{closer}
-use Rattle.hop_rule.specs.declared.sizes.BoardSizes.{BoardSizes}
-use Rattle.hop_rule.specs.declared.step.BoardStep.{BoardStep}
-use Rattle.hop_rule.specs.declared.step.BoardStep.TheVariants.{Counted, Gate, Weighed}
-use Rattle.hop_rule.specs.declared.step.GateStep.TheVariants.{NotShut, Opened, Shut}
+use Rattle.hop_rule.specs.Moments.{moment_of}
+use Rattle.hop_rule.specs.declared.step.GateStep.TheVariants.{NotShut}
 use Rattle.hop_rule.proofs.Closes.{busy_lanes_have_packets, found_visits_are_open}
-use Rattle.hop_rule.proofs.Moments.{nth-first, nth-inside, nth-old}
+use Rattle.hop_rule.proofs.Moments.{nth-first}
 use Rattle.hop_rule.proofs.Numbers.{none_between}
 use Rattle.board_api.specs.Calls.Results.{Looked, looking}
-use Rattle.board_api.specs.Closings.Closings.{HasEnded, own_in}
+use Rattle.board_api.specs.Closings.Closings.{HasEnded}
 use Rattle.board_api.specs.Seats.{BoardSeatView}
-use Rattle.board_api.specs.declared.lists.BoardLists.{BoardLists}
 use Rattle.board_api.proofs.Endings.{own_parts}
 use Rattle.board_api.proofs.OwnTimes.{rise, step_is}
 use Rattle.steer_model.specs.Good.Commands.{IsEnd, gate_lanes}
-use Rattle.steer_model.specs.Good.Inputs.{Input}
 use Rattle.steer_model.specs.Steps.Commands.{refused_answer}
-use Rattle.run_coupling.specs.Coupling.Answers.{AllAnswered, FindsOneBusy, FindsVisits}
-use Rattle.run_coupling.specs.Coupling.Answers.{IsAnswered, IsBusy, IsBusyAt}
-use Rattle.run_coupling.specs.Coupling.Tries.{Try, at_receive, at_transmit, steps_of_tries}
+use Rattle.run_coupling.specs.Coupling.Answers.{FindsOneBusy, FindsVisits, IsBusy, IsBusyAt}
 use Rattle.run_coupling.proofs.Tries.EmptiedLemmas.{looking-append}
 use Rattle.run_goodness.specs.Laws.BusyAnswers.{BusyAnswersAreTrue, WasBusy}
+use Rattle.run_goodness.proofs.Names.{◌≡◌, ◌⊎◌, inl, inr, ℕ, ◌<◌, ◌≤◌, List, [], ◌∷◌, ◌++◌, Option}
+use Rattle.run_goodness.proofs.Names.{Some, None, length, refl, sym, ap, ◌∙◌, subst, arith}
+use Rattle.run_goodness.proofs.Names.{append_assoc, slice_get, Command, Refused, Commanded, History}
+use Rattle.run_goodness.proofs.Names.{LaneList, nth_step, own_of, closer, BoardSizes, BoardStep}
+use Rattle.run_goodness.proofs.Names.{Counted, Gate, Weighed, Opened, Shut, nth-inside, nth-old}
+use Rattle.run_goodness.proofs.Names.{own_in, BoardLists, Input, AllAnswered, IsAnswered, Try}
+use Rattle.run_goodness.proofs.Names.{at_receive, at_transmit, steps_of_tries}
 use Rattle.run_goodness.proofs.Tries.AnswerLemmas.{TryAt, answered-later, nth-here, steps-append}
 use Rattle.run_goodness.proofs.Tries.AnswerLemmas.{try_at}
 

@@ -1,17 +1,14 @@
 -- A lane that was not found empty.
-use Rattle.std.proofs.Common.{◌≡◌, ◌≢◌, ℕ, ◌+◌, ◌-◌, ◌%◌, ◌/◌, ◌^◌, ◌<◌, ◌≤◌, List, length, sym, ap}
-use Rattle.std.proofs.Common.{◌∙◌, subst, arith}
-use Rattle.steer_base.specs.Counters.{distance, number}
+use Rattle.steer_base.specs.Counters.{number}
 use Rattle.steer_base.proofs.CountersLemmas.{distance-further}
-use Rattle.history.specs.Lists.{lane_at}
 use Rattle.hop_rule.specs.Sizes.{FitSizes}
-use Rattle.hop_rule.specs.declared.sizes.BoardSizes.{BoardSizes}
-use Rattle.hop_rule.specs.declared.step.BoardStep.{BoardStep}
 use Rattle.board_api.specs.Laws.Heads.{HeadsAreBelowTails, HeadsRise}
 use Rattle.board_api.specs.Laws.Lanes.{LanesAreInTurn}
 use Rattle.board_api.specs.StepWords.{tail_in}
-use Rattle.board_api.specs.declared.lists.BoardLists.{BoardLists}
 use Rattle.run_goodness.specs.Laws.BusyLanes.{BusyLanesAreBusy}
+use Rattle.run_goodness.proofs.Names.{◌≡◌, ◌≢◌, ℕ, ◌+◌, ◌-◌, ◌%◌, ◌/◌, ◌^◌, ◌<◌, ◌≤◌, List, length}
+use Rattle.run_goodness.proofs.Names.{sym, ap, ◌∙◌, subst, arith, distance, lane_at, BoardSizes}
+use Rattle.run_goodness.proofs.Names.{BoardStep, BoardLists}
 
 -- the count of a whole word, as a distance of its low half
 pub shown : (start word : ℕ) → start < 2 ^ 32 → start ≤ word → word - start ≤ 262144

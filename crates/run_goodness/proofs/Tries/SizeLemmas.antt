@@ -1,31 +1,22 @@
 -- Each size of the socket flow table in force is the plan's or that of a done command.
-use Rattle.std.proofs.Common.{◌≡◌, inl, inr, ℕ, Bool, true, false, List, [], ◌∷◌, ◌++◌, Option}
-use Rattle.std.proofs.Common.{Some, None, length, map, if◌then◌else◌, sym, refl, ap, ◌∙◌, subst}
-use Rattle.std.proofs.Common.{arith}
-use Rattle.std.proofs.Common.{append_assoc}
-use Rattle.std.specs.Prelude.{slice_get}
-use Rattle.std.proofs.lemmas.List.{length-map, map-append}
+use Rattle.std.proofs.lemmas.List.{map-append}
 use Rattle.steer_base.specs.declared.command.Answer.TheVariants as says
-use Rattle.steer_base.specs.declared.command.Command.{Command}
 use Rattle.steer_base.specs.declared.command.Command.TheVariants as give
-use Rattle.steer_base.specs.declared.command.Refused.{Refused}
 use Rattle.steer_base.specs.declared.command.Refused.TheVariants as refused
-use Rattle.history.specs.declared.commanded.Commanded.{Commanded}
-use Rattle.history.specs.declared.history.History.{History}
-use Rattle.history.specs.declared.lane_list.LaneList.{LaneList}
-use Rattle.hop_rule.specs.Moments.{nth_step}
-use Rattle.hop_rule.specs.declared.step.BoardStep.{BoardStep}
-use Rattle.hop_rule.proofs.Moments.{nth-last, nth-old}
-use Rattle.steer_model.specs.Good.Inputs.{Input, WasDone}
+use Rattle.steer_model.specs.Good.Inputs.{WasDone}
 use Rattle.steer_model.specs.Good.Writes.{IsSize}
-use Rattle.steer_model.specs.State.Settings.{Settings, changed}
-use Rattle.steer_model.specs.State.Start.{initial_settings}
-use Rattle.steer_model.specs.Good.Commands.{refused_with}
+use Rattle.steer_model.specs.State.Settings.{changed}
 use Rattle.steer_model.specs.Steps.Commands.{is_done}
-use Rattle.run_coupling.specs.Coupling.Answers.{AllAnswered, IsAnswered, IsBusyAt}
-use Rattle.run_coupling.specs.Coupling.Tries.{Try, settings_by}
+use Rattle.run_coupling.specs.Coupling.Answers.{IsBusyAt}
 use Rattle.run_words.specs.Lists.{oldest_first}
 use Rattle.run_coupling.proofs.Runs.TurnListLemmas.{nth-oldest}
+use Rattle.run_goodness.proofs.Names.{◌≡◌, inl, inr, ℕ, Bool, true, false, List, [], ◌∷◌, ◌++◌}
+use Rattle.run_goodness.proofs.Names.{Option, Some, None, length, map, if◌then◌else◌, sym, refl, ap}
+use Rattle.run_goodness.proofs.Names.{◌∙◌, subst, arith, append_assoc, slice_get, length-map}
+use Rattle.run_goodness.proofs.Names.{Command, Refused, Commanded, History, LaneList, nth_step}
+use Rattle.run_goodness.proofs.Names.{BoardStep, nth-last, nth-old, Input, Settings}
+use Rattle.run_goodness.proofs.Names.{initial_settings, refused_with, AllAnswered, IsAnswered, Try}
+use Rattle.run_goodness.proofs.Names.{settings_by}
 
 -- a try is among the commands of the history
 given-at : (h : History) (tries more older : List Try) (t : Try)

@@ -1,53 +1,41 @@
 -- A choice by the rule of its visit is by the rule of a good history, with the settings after the
 -- commands up to the visit's opening.
-use Rattle.std.proofs.Common.{◌≡◌, inl, inr, ℕ, zero, suc, ◌+◌, ◌*◌, ◌/◌, ◌%◌, ◌^◌, ◌<◌, ◌≤◌, ◌==◌}
-use Rattle.std.proofs.Common.{not, true, List, [], ◌∷◌, ◌++◌, Option, Some, None, length, take}
-use Rattle.std.proofs.Common.{drop, All, if◌then◌else◌, sym, ap, ◌∙◌, subst, arith}
-use Rattle.std.specs.Prelude.{nat_lt, slice_get, slice_index, slice_index_or, unwrap_or}
-use Rattle.std.specs.List.{list_any}
-use Rattle.std.proofs.lemmas.Bool.{cases_lt, lt-ltb}
-use Rattle.steer_base.specs.Choices.{class_of, desired_cpu, migrate, online_or, rps_choice_of}
-use Rattle.steer_base.specs.Entries.{entry}
-use Rattle.steer_base.specs.Sets.{has}
-use Rattle.steer_base.specs.declared.choice.Chosen.{Chosen}
-use Rattle.steer_base.specs.declared.command.Command.{Command}
-use Rattle.dev_flow_table.specs.Walks.{since_resize}
-use Rattle.history.specs.Lists.{list_at}
-use Rattle.history.specs.declared.history.History.{History}
-use Rattle.hop_model.specs.Hop.{chosen_at, nobody}
-use Rattle.hop_rule.specs.Boards.{gate_steps}
+use Rattle.std.proofs.Common.{◌*◌}
+use Rattle.std.specs.Prelude.{nat_lt, slice_index, slice_index_or}
+use Rattle.std.proofs.lemmas.Bool.{cases_lt}
+use Rattle.steer_base.specs.Choices.{class_of, desired_cpu, online_or, rps_choice_of}
 use Rattle.hop_rule.specs.Gates.{opened, own_settings}
-use Rattle.hop_rule.specs.Moments.{nth_step}
-use Rattle.hop_rule.specs.Sizes.{closer}
-use Rattle.hop_rule.specs.declared.sizes.BoardSizes.{BoardSizes}
-use Rattle.hop_rule.specs.declared.step.BoardStep.{BoardStep}
-use Rattle.hop_rule.proofs.Moments.{nth-some}
-use Rattle.board_api.specs.Laws.Heads.{VisitNumbersRise}
-use Rattle.board_api.specs.declared.lists.BoardLists.{BoardLists}
-use Rattle.hop_delivery.specs.Orders.Commands.{SettingChange, received_sets}
+use Rattle.hop_delivery.specs.Orders.Commands.{received_sets}
 use Rattle.hop_delivery.specs.Orders.ReceiveSettings.{Queues, flows_word, mask, mask_word, online}
-use Rattle.hop_delivery.specs.Orders.ReceiveSettings.{queues, receive_steering}
-use Rattle.hop_delivery.specs.Orders.Runs.{Steering, Execution, goal_of, turns_of, word_of}
-use Rattle.hop_delivery.specs.Orders.Turns.{Turn}
-use Rattle.hop_delivery.specs.Closings.FlowLaw.{accepted_left}
+use Rattle.hop_delivery.specs.Orders.ReceiveSettings.{queues}
+use Rattle.hop_delivery.specs.Orders.Runs.{goal_of}
 use Rattle.steer_model.specs.Good.Choices.{AreByRule, accepted_in}
 use Rattle.steer_model.specs.Good.Choices as good
-use Rattle.steer_model.specs.Good.Inputs.{Input, is_resize, settings_at, setup_in, since_at}
-use Rattle.steer_model.specs.State.Settings.{Settings, class_at, plain_lane}
-use Rattle.steer_model.specs.State.Setup.{Setup, flow_number_of, packet_hash}
-use Rattle.steer_model.specs.State.Start.{initial_settings}
+use Rattle.steer_model.specs.Good.Inputs.{is_resize, since_at}
+use Rattle.steer_model.specs.State.Settings.{class_at, plain_lane}
+use Rattle.steer_model.specs.State.Setup.{Setup}
+use Rattle.run_goodness.proofs.Names.{◌≡◌, inl, inr, ℕ, zero, suc, ◌+◌, ◌/◌, ◌%◌, ◌^◌, ◌<◌, ◌≤◌}
+use Rattle.run_goodness.proofs.Names.{◌==◌, not, true, List, [], ◌∷◌, ◌++◌, Option, Some, None}
+use Rattle.run_goodness.proofs.Names.{length, take, drop, All, if◌then◌else◌, sym, ap, ◌∙◌, subst}
+use Rattle.run_goodness.proofs.Names.{arith, slice_get, unwrap_or, list_any, lt-ltb, migrate, entry}
+use Rattle.run_goodness.proofs.Names.{has, Chosen, Command, since_resize, list_at, History}
+use Rattle.run_goodness.proofs.Names.{chosen_at, nobody, gate_steps, nth_step, closer, BoardSizes}
+use Rattle.run_goodness.proofs.Names.{BoardStep, nth-some, VisitNumbersRise, BoardLists}
+use Rattle.run_goodness.proofs.Names.{SettingChange, receive_steering, Steering, Execution}
+use Rattle.run_goodness.proofs.Names.{turns_of, word_of, Turn, accepted_left, Input, settings_at}
+use Rattle.run_goodness.proofs.Names.{setup_in, Settings, flow_number_of, packet_hash}
+use Rattle.run_goodness.proofs.Names.{initial_settings, commands_before, receive_queues, Try}
+use Rattle.run_goodness.proofs.Names.{at_receive, settings_by, tries_up_to}
 use Rattle.run_goodness.proofs.Turns.NumberLemmas as numbers
 use Rattle.run_goodness.proofs.Turns.OwnHeadLemmas.{migrate_own}
 use Rattle.run_coupling.proofs.Tries.ResizeLemmas.{flow_word, resized_between, since_same}
 use Rattle.run_coupling.proofs.Tries.TryLemmas.{drop-given, given_by}
-use Rattle.run_coupling.specs.Laws.Choices.{ChoicesFollow, ChoicesHaveTurns, commands_before}
+use Rattle.run_coupling.specs.Laws.Choices.{ChoicesFollow, ChoicesHaveTurns}
 use Rattle.run_coupling.specs.Coupling.Boards.{IsReceiveBoard}
 use Rattle.run_coupling.specs.Coupling.Inputs.{AreReceiveWords, FlowsHaveOneHash}
-use Rattle.run_coupling.specs.Coupling.Inputs.{NamesReceiveQueues}
-use Rattle.run_coupling.specs.Coupling.Inputs.{hash_of_flow, receive_queues}
-use Rattle.run_coupling.specs.Coupling.Tries.{KeepsReceiveTries, Try, at_receive}
+use Rattle.run_coupling.specs.Coupling.Inputs.{NamesReceiveQueues, hash_of_flow}
+use Rattle.run_coupling.specs.Coupling.Tries.{KeepsReceiveTries}
 use Rattle.run_coupling.proofs.Tries.ResizeLemmas.{resizes_by}
-use Rattle.run_coupling.specs.Coupling.Tries.{settings_by, tries_up_to}
 use Rattle.run_coupling.proofs.Tries.OpeningLemmas.{settings_of_opening, words_of_opening}
 use Rattle.run_coupling.proofs.Tries.OpeningLemmas as opening_lemmas
 

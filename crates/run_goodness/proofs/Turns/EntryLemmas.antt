@@ -1,17 +1,14 @@
 -- The entries of a producer's turns stand in its seat's own list, in the order of the turns.
-use Rattle.std.proofs.Common.{◌≡◌, ◌⊎◌, inl, inr, ℕ, ◌<◌, List, [], ◌∷◌, ◌++◌, Some, length, sym}
-use Rattle.std.proofs.Common.{ap, ◌∙◌, arith, append_assoc}
 use mathlib.Core.Logic.{dite}
 use native.Mathlib.Decide.{ℕ_discrete}
 use Rattle.linearization.specs.Orders.{StepBy, steps_of}
 use Rattle.linearization.proofs.ListLemmas.{if_same, if_other}
-use Rattle.hop_rule.specs.Moments.{nth_step}
-use Rattle.hop_rule.specs.declared.step.BoardStep.{BoardStep}
-use Rattle.hop_rule.specs.declared.step.BoardStep.TheVariants.{Gate}
 use Rattle.hop_rule.specs.declared.step.GateStep.TheVariants.{Entered, Left}
-use Rattle.hop_rule.proofs.Lists.{none-some, some-is}
-use Rattle.hop_rule.proofs.Moments.{nth-inside, nth-last, nth-old}
-use Rattle.hop_delivery.specs.Orders.Turns.{Turn, Explained, turn_put, visit_with}
+use Rattle.hop_delivery.specs.Orders.Turns.{turn_put, visit_with}
+use Rattle.run_goodness.proofs.Names.{◌≡◌, ◌⊎◌, inl, inr, ℕ, ◌<◌, List, [], ◌∷◌, ◌++◌, Some, length}
+use Rattle.run_goodness.proofs.Names.{sym, ap, ◌∙◌, arith, append_assoc, nth_step, BoardStep, Gate}
+use Rattle.run_goodness.proofs.Names.{none-some, some-is, nth-inside, nth-last, nth-old, Turn}
+use Rattle.run_goodness.proofs.Names.{Explained}
 
 abbrev pub entry : Turn → BoardStep
 entry u = Gate (Entered u.word)

@@ -1,37 +1,25 @@
 -- Heads that choices saw.
-use Rattle.std.proofs.Common.{◌≡◌, ℕ, zero, suc, ◌+◌, ◌-◌, ◌%◌, ◌^◌, ◌<◌, ◌≤◌, ◌==◌, not, Bool}
-use Rattle.std.proofs.Common.{true, false, List, [], ◌∷◌, ◌++◌, Option, Some, None, length, map}
-use Rattle.std.proofs.Common.{take, drop, get_or, if◌then◌else◌, sym, refl, ap, ◌∙◌, arith}
-use Rattle.std.specs.Prelude.{slice_get}
 use Rattle.std.proofs.lemmas.List.{map-append, take-append-drop}
 use Rattle.linearization.specs.Orders.{step_by}
-use Rattle.steer_base.specs.Choices.{by_entry, migrate}
-use Rattle.steer_base.specs.Counters.{distance, has_reached}
 use Rattle.steer_base.specs.Entries.{current_lane, is_class, last_or, of_class}
-use Rattle.steer_base.specs.declared.choice.Choice.{Choice}
-use Rattle.steer_base.specs.declared.choice.Chosen.{Chosen}
-use Rattle.steer_base.specs.declared.choice.Entry.{Entry}
-use Rattle.steer_base.specs.declared.choice.Why.{Why}
-use Rattle.steer_base.specs.declared.choice.Why.TheVariants.{Kept, Offline, Passed, Same}
-use Rattle.history.specs.Lists.{lane_at}
-use Rattle.hop_model.specs.Hop.{chosen_at, nobody}
-use Rattle.hop_rule.specs.Moments.{moment_of, nth_step}
+use Rattle.hop_rule.specs.Moments.{moment_of}
 use Rattle.hop_rule.specs.Sizes.{FitSizes}
-use Rattle.hop_rule.specs.declared.sizes.BoardSizes.{BoardSizes}
-use Rattle.hop_rule.specs.declared.step.BoardStep.{BoardStep}
-use Rattle.hop_rule.specs.declared.step.BoardStep.TheVariants.{Weighed}
-use Rattle.hop_rule.proofs.Lists.{none-some, some-is}
-use Rattle.hop_rule.proofs.Moments.{nth-inside, nth-last, nth-old, nth-some, step-inside}
+use Rattle.hop_rule.proofs.Moments.{step-inside}
 use Rattle.hop_rule.proofs.Parts.{at_moment, moments_rise}
 use Rattle.board_api.specs.Laws.Heads as seam
 use Rattle.board_api.specs.Laws.Lanes.{LanesAreInTurn}
-use Rattle.board_api.specs.OwnSteps.{Has}
-use Rattle.board_api.specs.declared.lists.BoardLists.{BoardLists}
-use Rattle.hop_delivery.specs.Orders.Runs.{IsByRule, Steering, Execution, turns_of}
-use Rattle.hop_delivery.specs.Orders.Turns.{Explained, Turn}
+use Rattle.hop_delivery.specs.Orders.Runs.{IsByRule}
 use Rattle.hop_delivery.proofs.Orders.TurnLemmas.{Places, turns_have_places}
-use Rattle.hop_delivery.specs.Closings.FlowLaw.{accepted_left}
 use Rattle.steer_model.specs.Good.Choices.{HeadsRise, lane_seen}
+use Rattle.run_goodness.proofs.Names.{◌≡◌, ℕ, zero, suc, ◌+◌, ◌-◌, ◌%◌, ◌^◌, ◌<◌, ◌≤◌, ◌==◌, not}
+use Rattle.run_goodness.proofs.Names.{Bool, true, false, List, [], ◌∷◌, ◌++◌, Option, Some, None}
+use Rattle.run_goodness.proofs.Names.{length, map, take, drop, get_or, if◌then◌else◌, sym, refl, ap}
+use Rattle.run_goodness.proofs.Names.{◌∙◌, arith, slice_get, by_entry, migrate, distance}
+use Rattle.run_goodness.proofs.Names.{has_reached, Choice, Chosen, Entry, Why, Kept, Offline}
+use Rattle.run_goodness.proofs.Names.{Passed, Same, lane_at, chosen_at, nobody, nth_step}
+use Rattle.run_goodness.proofs.Names.{BoardSizes, BoardStep, Weighed, none-some, some-is}
+use Rattle.run_goodness.proofs.Names.{nth-inside, nth-last, nth-old, nth-some, Has, BoardLists}
+use Rattle.run_goodness.proofs.Names.{Steering, Execution, turns_of, Explained, Turn, accepted_left}
 use Rattle.run_goodness.proofs.Tries.BusyLemmas.{shown}
 use Rattle.run_coupling.proofs.Turns.TableEntryLemmas.{nth-moment}
 use Rattle.run_goodness.proofs.Turns.ChoiceLemmas.{get-or}

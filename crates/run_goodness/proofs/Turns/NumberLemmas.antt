@@ -1,24 +1,14 @@
 -- The numbers of a producer's visits count the controller's openings, and with them its tries.
-use Rattle.std.proofs.Common.{◌≡◌, ℕ, suc, ◌+◌, ◌/◌, ◌^◌, ◌<◌, ◌≤◌, List, ◌++◌, length, ap}
-use Rattle.std.proofs.Common.{◌∙◌, subst, arith, length-append}
-use Rattle.steer_base.specs.declared.choice.Chosen.{Chosen}
-use Rattle.steer_base.specs.declared.command.Command.{Command}
-use Rattle.hop_rule.specs.Boards.{gate_steps}
 use Rattle.hop_rule.specs.Gates.{openings}
-use Rattle.hop_rule.specs.Moments.{nth_step}
-use Rattle.hop_rule.specs.Sizes.{closer}
-use Rattle.hop_rule.specs.declared.sizes.BoardSizes.{BoardSizes}
-use Rattle.hop_rule.specs.declared.step.BoardStep.{BoardStep}
-use Rattle.hop_rule.proofs.Moments.{nth-some}
-use Rattle.board_api.specs.Laws.Heads.{VisitNumbersRise}
-use Rattle.board_api.specs.declared.lists.BoardLists.{BoardLists}
-use Rattle.hop_delivery.specs.Orders.Commands.{SettingChange}
-use Rattle.hop_delivery.specs.Orders.Runs.{Execution, turns_of, word_of}
-use Rattle.hop_delivery.specs.Orders.Turns.{Explained}
 use Rattle.steer_model.specs.Good.Inputs.{Prefixes}
-use Rattle.run_coupling.specs.Coupling.Tries.{AllSetByAnswer, Try, openings_by, steps_of_tries}
-use Rattle.run_coupling.specs.Coupling.Tries.{tries_up_to}
+use Rattle.run_coupling.specs.Coupling.Tries.{AllSetByAnswer, openings_by}
 use Rattle.run_coupling.proofs.Tries.TryLemmas.{openings-makings, tries-grow}
+use Rattle.run_goodness.proofs.Names.{◌≡◌, ℕ, suc, ◌+◌, ◌/◌, ◌^◌, ◌<◌, ◌≤◌, List, ◌++◌, length, ap}
+use Rattle.run_goodness.proofs.Names.{◌∙◌, subst, arith, length-append, Chosen, Command, gate_steps}
+use Rattle.run_goodness.proofs.Names.{nth_step, closer, BoardSizes, BoardStep, nth-some}
+use Rattle.run_goodness.proofs.Names.{VisitNumbersRise, BoardLists, SettingChange, Execution}
+use Rattle.run_goodness.proofs.Names.{turns_of, word_of, Explained, Try, steps_of_tries}
+use Rattle.run_goodness.proofs.Names.{tries_up_to}
 use Rattle.run_goodness.proofs.Turns.EntryLemmas.{entries-rise, entry-at}
 
 module _ (about : BoardSizes) (own : ℕ → List BoardStep) (lists : BoardLists)

@@ -1,58 +1,34 @@
 -- A choice for a reply by the rule of its visit is by the rule of a good history.
-use Rattle.std.proofs.Common.{◌≡◌, ℕ, zero, suc, ◌/◌, ◌^◌, ◌<◌, ◌≤◌, ◌==◌, not, Bool, true}
-use Rattle.std.proofs.Common.{false, List, [], ◌∷◌, Option, Some, None, length, map, take}
-use Rattle.std.proofs.Common.{drop, All, if◌then◌else◌, sym, refl, ap, ◌∙◌, subst, arith}
-use Rattle.std.specs.Prelude.{unwrap_or}
-use Rattle.std.proofs.lemmas.Bool.{lt-ltb}
 use Rattle.std.proofs.lemmas.List.Elements.{All-head, All-nil, All-cons, All-tail}
 use Rattle.std.proofs.lemmas.Nat.Bits.{bit_at_ones}
-use Rattle.steer_base.specs.Choices.{by_entry, migrate}
-use Rattle.steer_base.specs.Counters.{has_reached}
-use Rattle.steer_base.specs.Entries.{entry, is_class, last_or, of_class}
-use Rattle.steer_base.specs.Sets.{has}
-use Rattle.steer_base.specs.declared.choice.Choice.{Choice}
-use Rattle.steer_base.specs.declared.choice.Chosen.{Chosen}
-use Rattle.steer_base.specs.declared.choice.Entry.{Entry}
-use Rattle.steer_base.specs.declared.choice.Why.{Why}
-use Rattle.steer_base.specs.declared.choice.Why.TheVariants.{Kept, Offline, Passed, Same}
-use Rattle.steer_base.specs.declared.command.Command.{Command}
-use Rattle.dev_flow_table.specs.Walks.{since_resize}
+use Rattle.steer_base.specs.Entries.{is_class, last_or, of_class}
 use Rattle.xps_map.specs.Maps.{picked}
-use Rattle.history.specs.Lists.{list_at}
-use Rattle.history.specs.declared.history.History.{History}
-use Rattle.history.specs.declared.sent.Sent.{Sent}
-use Rattle.hop_model.specs.Hop.{chosen_at, nobody}
-use Rattle.hop_rule.specs.Boards.{gate_steps}
 use Rattle.hop_rule.specs.Gates.{opened, own_settings}
-use Rattle.hop_rule.specs.Moments.{nth_step}
-use Rattle.hop_rule.specs.Sizes.{closer}
-use Rattle.hop_rule.specs.declared.sizes.BoardSizes.{BoardSizes}
-use Rattle.hop_rule.specs.declared.step.BoardStep.{BoardStep}
-use Rattle.hop_rule.proofs.Lists.{none-some, some-is}
-use Rattle.hop_rule.proofs.Moments.{nth-some}
-use Rattle.board_api.specs.Laws.Heads.{VisitNumbersRise}
-use Rattle.board_api.specs.declared.lists.BoardLists.{BoardLists}
-use Rattle.hop_delivery.specs.Orders.Commands.{SettingChange, sent_sets}
-use Rattle.hop_delivery.specs.Orders.Runs.{Execution, turns_of, word_of}
+use Rattle.hop_delivery.specs.Orders.Commands.{sent_sets}
 use Rattle.hop_delivery.specs.Orders.TransmitSettings.{pick_by}
-use Rattle.hop_delivery.specs.Orders.Turns.{Turn}
-use Rattle.hop_delivery.specs.Closings.FlowLaw.{accepted_left}
 use Rattle.steer_model.specs.Steps.Applications.{everyone}
 use Rattle.steer_model.specs.Good.Choices.{accepted_in}
 use Rattle.steer_model.specs.Good.Replies.{IsReplyByRule}
-use Rattle.steer_model.specs.Good.Inputs.{Input, settings_at, setup_in}
-use Rattle.steer_model.specs.State.Settings.{Settings}
-use Rattle.steer_model.specs.State.Setup.{flow_number_of, packet_hash}
-use Rattle.steer_model.specs.State.Start.{initial_settings}
+use Rattle.run_goodness.proofs.Names.{◌≡◌, ℕ, zero, suc, ◌/◌, ◌^◌, ◌<◌, ◌≤◌, ◌==◌, not, Bool, true}
+use Rattle.run_goodness.proofs.Names.{false, List, [], ◌∷◌, Option, Some, None, length, map, take}
+use Rattle.run_goodness.proofs.Names.{drop, All, if◌then◌else◌, sym, refl, ap, ◌∙◌, subst, arith}
+use Rattle.run_goodness.proofs.Names.{unwrap_or, lt-ltb, by_entry, migrate, has_reached, entry, has}
+use Rattle.run_goodness.proofs.Names.{Choice, Chosen, Entry, Why, Kept, Offline, Passed, Same}
+use Rattle.run_goodness.proofs.Names.{Command, since_resize, list_at, History, Sent, chosen_at}
+use Rattle.run_goodness.proofs.Names.{nobody, gate_steps, nth_step, closer, BoardSizes, BoardStep}
+use Rattle.run_goodness.proofs.Names.{none-some, some-is, nth-some, VisitNumbersRise, BoardLists}
+use Rattle.run_goodness.proofs.Names.{SettingChange, Execution, turns_of, word_of, Turn}
+use Rattle.run_goodness.proofs.Names.{accepted_left, Input, settings_at, setup_in, Settings}
+use Rattle.run_goodness.proofs.Names.{flow_number_of, packet_hash, initial_settings, RepliesAreBy}
+use Rattle.run_goodness.proofs.Names.{commands_before_reply, Try, at_transmit, settings_by}
+use Rattle.run_goodness.proofs.Names.{tries_up_to}
 use Rattle.run_goodness.proofs.Turns.NumberLemmas as numbers
 use Rattle.run_goodness.proofs.Turns.OwnHeadLemmas.{migrate_own}
 use Rattle.run_goodness.proofs.Turns.ChoiceLemmas.{get-or}
-use Rattle.run_coupling.specs.Laws.Replies.{RepliesAreBy, RepliesFollow, RepliesHaveTurns}
-use Rattle.run_coupling.specs.Laws.Replies.{commands_before_reply}
+use Rattle.run_coupling.specs.Laws.Replies.{RepliesFollow, RepliesHaveTurns}
 use Rattle.run_coupling.specs.Coupling.Boards.{IsTransmitBoard}
 use Rattle.run_coupling.specs.Coupling.Inputs.{AreTransmitWords, NamesTransmitQueues}
-use Rattle.run_coupling.specs.Coupling.Tries.{KeepsTransmitTries, Try, at_transmit}
-use Rattle.run_coupling.specs.Coupling.Tries.{settings_by, tries_up_to}
+use Rattle.run_coupling.specs.Coupling.Tries.{KeepsTransmitTries}
 use Rattle.run_coupling.proofs.Tries.MapLemmas.{pick-is}
 use Rattle.run_coupling.proofs.Tries.MapOpeningLemmas as map_openings
 

@@ -1,9 +1,6 @@
-use Rattle.hop_rule.specs.Owns.{own_of}
-use Rattle.board_api.specs.Closings.Finals.{lists_of}
-use Rattle.board_api.proofs.Endings.{at_closings}
 use Rattle.board_api.proofs.OwnHeads.{heads_are_below, heads_rise}
-use Rattle.board_api.proofs.OwnLanes.{lanes_are_in_turn}
 use Rattle.run_goodness.specs.Laws.BusyLanes.{BusyLanesAreBusy}
+use Rattle.run_goodness.proofs.Names.{own_of, lists_of, at_closings, lanes_are_in_turn}
 use Rattle.run_goodness.proofs.Tries.BusyLemmas.{busy_lanes}
 use Rattle.run_goodness.proofs.laws.busy_lanes_are_busy.Goals as goal
 

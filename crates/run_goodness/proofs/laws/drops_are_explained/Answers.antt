@@ -1,10 +1,8 @@
-use Rattle.hop_rule.specs.Owns.{own_of}
-use Rattle.board_api.specs.Closings.Finals.{lists_of}
-use Rattle.board_api.proofs.Endings.{at_closings}
 use Rattle.board_api.proofs.OwnDrops.{drops_have_causes, drops_rise}
 use Rattle.board_api.proofs.OutSums.{lists_are_counted}
 use Rattle.run_coupling.specs.Laws.Drops.{DropsFollow}
 use Rattle.run_coupling.proofs.Turns.TableLemmas.{drops_follow}
+use Rattle.run_goodness.proofs.Names.{own_of, lists_of, at_closings}
 use Rattle.run_goodness.proofs.laws.drops_are_explained.Goals as goal
 
 pub returns : goal.returns

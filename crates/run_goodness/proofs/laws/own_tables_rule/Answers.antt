@@ -1,12 +1,10 @@
 use Rattle.dev_flow_table.proofs.FoldsLemmas as folds
-use Rattle.hop_rule.specs.Owns.{own_of}
-use Rattle.board_api.specs.Closings.Finals.{lists_of}
-use Rattle.board_api.proofs.Endings.{at_closings}
 use Rattle.board_api.proofs.OwnPuts.{accepted_were_put, puts_stand}
 use Rattle.hop_delivery.proofs.Closings.PutPlaceLemmas.{answers_are_places}
 use Rattle.run_coupling.specs.Laws.OwnTables.{TablesAreEntries, TablesRule}
 use Rattle.run_coupling.proofs.Turns.TableEntryLemmas.{tables_are_entries}
 use Rattle.run_coupling.proofs.Turns.TableLemmas.{tables_rule}
+use Rattle.run_goodness.proofs.Names.{own_of, lists_of, at_closings}
 use Rattle.run_goodness.proofs.laws.own_tables_rule.Goals as goal
 
 pub returns-clause-entries : goal.returns-clause-entries

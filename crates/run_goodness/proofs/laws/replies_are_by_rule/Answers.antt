@@ -1,8 +1,6 @@
-use Rattle.hop_rule.specs.Owns.{own_of}
-use Rattle.board_api.specs.Closings.Finals.{lists_of}
-use Rattle.board_api.proofs.Endings.{at_closings}
 use Rattle.board_api.proofs.OwnVisits.{visit_numbers_rise}
 use Rattle.run_coupling.specs.Laws.Replies.{RepliesFollow}
+use Rattle.run_goodness.proofs.Names.{own_of, lists_of, at_closings}
 use Rattle.run_goodness.proofs.Turns.ReplyLemmas.{replies_of_closing}
 use Rattle.run_goodness.proofs.laws.replies_are_by_rule.Goals as goal
 
