@@ -1,27 +1,22 @@
 -- How many packets a seat's puts had accepted.
-use Rattle.std.proofs.Common.{◌≡◌, ◌≢◌, ◌⊎◌, inl, inr, ℕ, zero, suc, ◌+◌, ◌<◌, ◌≤◌, List, [], ◌∷◌}
-use Rattle.std.proofs.Common.{◌++◌, Some, None, All, length, map, sym, refl, ap, ◌∙◌, arith}
 use Rattle.std.specs.List.{cons_option}
-use Rattle.std.proofs.lemmas.Bool.{cases_lt}
-use Rattle.std.proofs.lemmas.List.Elements.{All-head, All-tail, filter_map-append}
-use Rattle.linearization.specs.Orders.{StepBy, steps_of}
-use Rattle.linearization.proofs.ListLemmas.{if_other, if_same}
-use Rattle.steer_base.specs.declared.put.Put.{Put}
-use Rattle.steer_base.specs.declared.put.Put.TheVariants.{At, Dropped}
-use Rattle.hop_rule.specs.Events.{sum_below}
-use Rattle.hop_rule.specs.Owns.{PutMade, put_in, puts_of}
-use Rattle.hop_rule.specs.declared.step.BoardStep.{BoardStep}
-use Rattle.hop_rule.specs.declared.step.BoardStep.TheVariants.{Counted, Gate, Lane, LaneIn, LaneOut}
-use Rattle.hop_rule.specs.declared.step.BoardStep.TheVariants.{OutCounted, Weighed}
+use Rattle.std.proofs.lemmas.List.Elements.{filter_map-append}
+use Rattle.hop_rule.specs.Owns.{PutMade, put_in}
+use Rattle.hop_rule.specs.declared.step.BoardStep.TheVariants.{Counted, LaneIn, LaneOut, OutCounted}
 use Rattle.hop_rule.specs.declared.step.Change.TheVariants.{Nothing, Offered, Pulled}
 use Rattle.hop_rule.specs.declared.step.GateStep.TheVariants.{Entered}
 use Rattle.hop_rule.specs.declared.step.LaneStep.TheVariants.{Freed, Given, Held, Missed, OutFreed}
-use Rattle.hop_rule.specs.declared.step.LaneStep.TheVariants.{OutHeld, OutMissed, Retired}
-use Rattle.hop_rule.proofs.Gates.{sum_one, sum_same}
+use Rattle.hop_rule.specs.declared.step.LaneStep.TheVariants.{OutMissed, Retired}
+use Rattle.hop_rule.proofs.Gates.{sum_one}
 use Rattle.board_api.specs.OwnSteps.{accepted_by}
-use Rattle.hop_delivery.specs.Orders.Turns.{Explained, Turn, turn_put, visit_with}
+use Rattle.hop_delivery.specs.Orders.Turns.{Explained, turn_put, visit_with}
 use Rattle.run_workers.specs.Hands.Pollers.{count_after}
-use Rattle.run_workers.specs.Records.Polling.{PolledTurn, accepted_turns, turns_in}
+use Rattle.run_workers.specs.Records.Polling.{accepted_turns}
+use Rattle.run_crew.proofs.Names.{◌≡◌, ◌≢◌, ◌⊎◌, inl, inr, ℕ, zero, suc, ◌+◌, ◌<◌, ◌≤◌, List, []}
+use Rattle.run_crew.proofs.Names.{◌∷◌, ◌++◌, Some, None, All, length, map, sym, refl, ap, ◌∙◌}
+use Rattle.run_crew.proofs.Names.{arith, cases_lt, All-head, All-tail, StepBy, steps_of, if_other}
+use Rattle.run_crew.proofs.Names.{if_same, Put, At, Dropped, sum_below, puts_of, BoardStep, Gate}
+use Rattle.run_crew.proofs.Names.{Lane, Weighed, OutHeld, sum_same, Turn, PolledTurn, turns_in}
 
 -- how many of these answers are that a packet was accepted
 abbrev pub taken : List Put → ℕ

@@ -1,78 +1,59 @@
 -- An application's record gives its coupling invariants.
-use Rattle.std.proofs.Common.{◌≡◌, ◌⊎◌, inl, inr, ℕ, zero, suc, ◌+◌, ◌-◌, ◌*◌, ◌%◌, ◌^◌, ◌<◌}
-use Rattle.std.proofs.Common.{◌≤◌, ◌==◌, Bool, true, false, List, [], ◌∷◌, ◌++◌, Option, None}
-use Rattle.std.proofs.Common.{Some, IfSome, true≢false, if◌then◌else◌, length, map, take, drop, All}
-use Rattle.std.proofs.Common.{sym, refl, ap, ◌∙◌, subst, arith}
-use Rattle.std.specs.Prelude.{nat_le, nat_lt, slice_get, unwrap_or}
-use Rattle.std.specs.List.{Contains, fold, range_with_len}
-use Rattle.std.specs.Option.{is_some, option_map}
-use Rattle.std.proofs.lemmas.Bool.{cases_lt, lt-ltb}
+use Rattle.std.proofs.Common.{IfSome, true≢false}
+use Rattle.std.specs.List.{range_with_len}
+use Rattle.std.specs.Option.{is_some}
 use Rattle.std.proofs.lemmas.Bool.Decides.{nat_tests}
-use Rattle.std.proofs.lemmas.List.{length-map, map-append}
-use Rattle.std.proofs.lemmas.List.Elements.{All-cons, All-head, All-nil, All-tail}
-use Rattle.std.proofs.lemmas.List.FromFn.{length-range_with_len}
-use Rattle.std.proofs.lemmas.Option.{get_or_from_slice_get, slice_get-map, slice_get_within}
-use Rattle.linearization.specs.Orders.{StepBy, steps_of}
-use Rattle.linearization.specs.Seats.{SeatView}
-use Rattle.steer_base.specs.Choices.{class_of, looks_at_head, migrate}
+use Rattle.std.proofs.lemmas.Option.{get_or_from_slice_get, slice_get_within}
 use Rattle.steer_base.specs.Sends.{first_filled, pick_of}
-use Rattle.steer_base.specs.Sets.{at_hash, has, has_queue, those_below}
-use Rattle.steer_base.specs.declared.choice.Choice.{Choice}
+use Rattle.steer_base.specs.Sets.{at_hash, has_queue, those_below}
 use Rattle.steer_base.proofs.SetsLemmas.{those_below-same}
-use Rattle.dev_flow_table.specs.Walks.{since_resize}
-use Rattle.dev_flow_table.specs.Folds.{after_turn}
-use Rattle.dev_flow_table.specs.Tables.{Table, cleared, entries}
+use Rattle.dev_flow_table.specs.Tables.{entries}
 use Rattle.history.specs.Lists.{arrival_of, no_arrival}
-use Rattle.history.specs.declared.arrival.Arrival.{Arrival}
-use Rattle.history.specs.declared.history.History.{History}
-use Rattle.history.specs.declared.sent.Sent.{Sent}
 use Rattle.history.specs.declared.sock_write.SockWrite.{SockWrite}
 use Rattle.history.proofs.RegularLemmas.{arrival-at}
 use Rattle.xps_map.specs.Maps.{picked, serves_cpu, serves_queue}
-use Rattle.hint_words.specs.declared.step.HintStep.{HintStep}
-use Rattle.hint_words.specs.declared.step.HintStep.TheVariants.{Load}
 use Rattle.hop_rule.specs.Boards.{gate_steps}
 use Rattle.hop_rule.specs.Gates.{visit}
-use Rattle.hop_rule.specs.Moments.{nth_step, past}
-use Rattle.hop_rule.specs.declared.sizes.BoardSizes.{BoardSizes}
-use Rattle.hop_rule.specs.declared.step.BoardStep.{BoardStep}
-use Rattle.hop_rule.specs.declared.step.BoardStep.TheVariants.{Gate, Lane, Weighed}
+use Rattle.hop_rule.specs.Moments.{past}
 use Rattle.hop_rule.specs.declared.step.GateStep.TheVariants.{Read}
-use Rattle.hop_rule.specs.declared.step.LaneStep.TheVariants.{OutHeld}
-use Rattle.hop_rule.proofs.Lists.{none-some, some-is}
 use Rattle.hop_rule.proofs.Moments.{nth-between, past-between}
 use Rattle.hop_delivery.specs.Closings.TurnReads.{KnowsMaps}
 use Rattle.hop_delivery.specs.Orders.ReceiveSettings.{mask}
-use Rattle.hop_delivery.specs.Orders.Runs.{Steering, Execution, turns_of}
+use Rattle.hop_delivery.specs.Orders.Runs.{Steering}
 use Rattle.hop_delivery.specs.Orders.TransmitSettings.{pick_by, transmit_steering}
-use Rattle.hop_delivery.specs.Orders.Turns.{Turn}
-use Rattle.plan_reader.specs.declared.plan.QueuePlan.{QueuePlan}
-use Rattle.steer_model.specs.Good.Inputs.{Input, setup_in}
-use Rattle.steer_model.specs.State.Setup.{Setup, flow_number_of, packet_hash}
-use Rattle.run_words.specs.Values.{cpus_in, place_in, queues_in, socket_size_in}
-use Rattle.run_words.specs.Numbers.{hint_number}
+use Rattle.steer_model.specs.State.Setup.{flow_number_of}
+use Rattle.run_words.specs.Values.{cpus_in, queues_in}
 use Rattle.run_words.specs.declared.hint_word.HintWord.TheVariants as hint
 use Rattle.run_words.specs.declared.hint_word.TheConstants.{STAND_WORDS}
 use Rattle.run_workers.specs.Hands.Pollers.{LoadedHead}
 use Rattle.run_workers.specs.Hands.Servers.{HasFlowsBelow, queue_by, queue_if}
 use Rattle.run_workers.specs.declared.server.Server.{Server}
-use Rattle.run_coupling.specs.Laws.SharedCodes.{AreShared}
 use Rattle.run_coupling.specs.Coupling.Applications.{FitTransmitWords, WasFoundAt}
 use Rattle.run_coupling.specs.Coupling.Ends.{AllArrived}
-use Rattle.run_coupling.specs.Coupling.Hints.{AreRecorded, CameBy, HintCodes, Says, Stands}
-use Rattle.run_coupling.specs.Coupling.Hints.{WasLoaded, WasRead}
+use Rattle.run_coupling.specs.Coupling.Hints.{AreRecorded, CameBy, Says, Stands, WasLoaded, WasRead}
 use Rattle.run_coupling.specs.Coupling.OwnTables.{IsByTable, table_before}
-use Rattle.run_coupling.proofs.Runs.CodeLemmas.{word-says}
-use Rattle.run_words.specs.Lists.{oldest_first}
-use Rattle.run_crew.specs.ApplicationCoupling.{AreMadeFor, ApplicationsAreCoupled}
-use Rattle.run_crew.specs.ApplicationCoupling.{IsApplicationCoupled, maps_seen, words_of_reply}
+use Rattle.run_crew.specs.ApplicationCoupling.{AreMadeFor, IsApplicationCoupled, maps_seen}
+use Rattle.run_crew.specs.ApplicationCoupling.{words_of_reply}
 use Rattle.run_workers.specs.Records.Growth.{held}
 use Rattle.run_workers.specs.Records.Replying.{EachReplied, HasWrittenAll, HasCome, HasFound}
-use Rattle.run_workers.specs.Records.Replying.{HasReadInside, HasStood, IsReplied, IsReplying}
-use Rattle.run_workers.specs.Records.Replying.{HasWritten, RepliedTurn, replies_in, replied_table}
-use Rattle.run_workers.specs.Records.Replying.{taken_by, reply_turns}
-use Rattle.run_workers.specs.Records.Words.{Note}
+use Rattle.run_workers.specs.Records.Replying.{HasReadInside, HasStood, IsReplied, HasWritten}
+use Rattle.run_workers.specs.Records.Replying.{RepliedTurn, replies_in, replied_table, taken_by}
+use Rattle.run_workers.specs.Records.Replying.{reply_turns}
 use Rattle.run_workers.proofs.Records.ListLemmas.{append_none}
+use Rattle.run_crew.proofs.Names.{◌≡◌, ◌⊎◌, inl, inr, ℕ, zero, suc, ◌+◌, ◌-◌, ◌*◌, ◌%◌, ◌^◌, ◌<◌}
+use Rattle.run_crew.proofs.Names.{◌≤◌, ◌==◌, Bool, true, false, List, [], ◌∷◌, ◌++◌, Option, None}
+use Rattle.run_crew.proofs.Names.{Some, if◌then◌else◌, length, map, take, drop, All, sym, refl, ap}
+use Rattle.run_crew.proofs.Names.{◌∙◌, subst, arith, nat_le, nat_lt, slice_get, unwrap_or, Contains}
+use Rattle.run_crew.proofs.Names.{fold, option_map, cases_lt, lt-ltb, length-map, map-append}
+use Rattle.run_crew.proofs.Names.{All-cons, All-head, All-nil, All-tail, length-range_with_len}
+use Rattle.run_crew.proofs.Names.{slice_get-map, StepBy, steps_of, SeatView, class_of}
+use Rattle.run_crew.proofs.Names.{looks_at_head, migrate, has, Choice, since_resize, after_turn}
+use Rattle.run_crew.proofs.Names.{Table, cleared, Arrival, History, Sent, HintStep, Load, nth_step}
+use Rattle.run_crew.proofs.Names.{BoardSizes, BoardStep, Gate, Lane, Weighed, OutHeld, none-some}
+use Rattle.run_crew.proofs.Names.{some-is, Execution, turns_of, Turn, QueuePlan, Input, setup_in}
+use Rattle.run_crew.proofs.Names.{Setup, packet_hash, place_in, socket_size_in, hint_number}
+use Rattle.run_crew.proofs.Names.{AreShared, HintCodes, word-says, oldest_first}
+use Rattle.run_crew.proofs.Names.{ApplicationsAreCoupled, IsReplying, Note}
 use Rattle.run_crew.proofs.ChoiceFunctions.{at-place}
 use Rattle.run_crew.proofs.NoteLemmas.{made-for}
 use Rattle.run_crew.proofs.RuleLemmas.{rule_looks, rule_want}

@@ -1,47 +1,37 @@
 -- What the wire did gives its coupling invariants.
-use Rattle.std.proofs.Common.{◌≡◌, ◌⊎◌, inl, inr, ℕ, zero, suc, ◌%◌, ◌<◌, ◌==◌, Bool, true, false}
-use Rattle.std.proofs.Common.{List, [], ◌∷◌, ◌++◌, Option, Some, None, length, map, All, ◌+◌, ◌≤◌}
-use Rattle.std.proofs.Common.{refl, sym, ap, subst, ◌∙◌, arith, leb-false}
-use Rattle.std.specs.Prelude.{◌||◌, ◌-◌, ◌/◌, ◌^◌, drop, if◌then◌else◌, nat_le, slice_get}
-use Rattle.std.specs.Prelude.{slice_index, unwrap_or}
-use Rattle.std.specs.List.{Contains, range_with_len}
-use Rattle.std.proofs.lemmas.List.{length-map}
-use Rattle.std.proofs.lemmas.List.FromFn.{length-range_with_len}
-use Rattle.std.proofs.lemmas.List.Elements.{All-nil, Contains-append_left, Contains-push, All-push}
-use Rattle.steer_base.specs.Arrivals.{filter_place, route, table_place}
-use Rattle.steer_base.specs.declared.filter.Filter.{Filter}
-use Rattle.rss_table.specs.Redirection.{Redirection, queue_of}
-use Rattle.hint_words.specs.declared.step.HintStep.{HintStep}
-use Rattle.hint_words.specs.declared.step.HintStep.TheVariants.{ClearIf, Load, Store}
+use Rattle.std.proofs.Common.{leb-false}
+use Rattle.std.specs.Prelude.{◌||◌, ◌-◌, ◌/◌, ◌^◌, drop, if◌then◌else◌}
+use Rattle.std.specs.List.{range_with_len}
+use Rattle.std.proofs.lemmas.List.Elements.{Contains-append_left, Contains-push, All-push}
+use Rattle.steer_base.specs.Arrivals.{route}
+use Rattle.rss_table.specs.Redirection.{queue_of}
 use Rattle.history.specs.Finding.{found}
 use Rattle.history.specs.Lists.{arrival_of, no_arrival}
 use Rattle.history.specs.Regular.{route_of}
 use Rattle.history.proofs.FindingLemmas.{found-here, found-past}
-use Rattle.history.specs.declared.arrival.Arrival.{Arrival}
-use Rattle.history.specs.declared.history.History.{History}
-use Rattle.hop_rule.specs.Moments.{nth_step}
-use Rattle.hop_rule.proofs.Lists.{none-some, some-is}
-use Rattle.hop_rule.proofs.Moments.{nth-first, nth-inside, nth-old}
-use Rattle.plan_reader.specs.declared.plan.QueuePlan.{QueuePlan}
-use Rattle.run_words.specs.Numbers.{hint_number}
-use Rattle.run_words.specs.Values.{filter_in, place_in, place_word}
+use Rattle.run_words.specs.Values.{place_word}
 use Rattle.run_words.specs.declared.hint_word.HintWord.TheVariants as word
 use Rattle.run_words.specs.declared.values.TheConstants.{DONE}
 use Rattle.run_words.proofs.ValueLemmas.{only_coded}
-use Rattle.steer_model.specs.Good.Inputs.{Input, setup_in}
-use Rattle.steer_model.specs.State.Setup.{Setup, packet_hash}
-use Rattle.run_coupling.specs.Laws.SharedCodes.{AreShared}
-use Rattle.run_coupling.specs.Coupling.Hints.{HintCodes, IsByWord, IsRouted, Says, SawNoFilter}
-use Rattle.run_coupling.specs.Coupling.Hints.{WasLoaded}
-use Rattle.run_coupling.proofs.Runs.CodeLemmas.{no-filter-says, word-says}
-use Rattle.run_words.specs.Lists.{oldest_first}
+use Rattle.run_coupling.specs.Coupling.Hints.{IsByWord, IsRouted, Says, SawNoFilter, WasLoaded}
+use Rattle.run_coupling.proofs.Runs.CodeLemmas.{no-filter-says}
 use Rattle.run_coupling.proofs.Lists.PlaceLemmas.{AreNumbered}
 use Rattle.run_coupling.specs.Coupling.Marks.{LoadsFilter}
+use Rattle.run_crew.proofs.Names.{◌≡◌, ◌⊎◌, inl, inr, ℕ, zero, suc, ◌%◌, ◌<◌, ◌==◌, Bool, true}
+use Rattle.run_crew.proofs.Names.{false, List, [], ◌∷◌, ◌++◌, Option, Some, None, length, map, All}
+use Rattle.run_crew.proofs.Names.{◌+◌, ◌≤◌, refl, sym, ap, subst, ◌∙◌, arith, nat_le, slice_get}
+use Rattle.run_crew.proofs.Names.{slice_index, unwrap_or, Contains, length-map}
+use Rattle.run_crew.proofs.Names.{length-range_with_len, All-nil, filter_place, table_place, Filter}
+use Rattle.run_crew.proofs.Names.{Redirection, HintStep, ClearIf, Load, Store, Arrival, History}
+use Rattle.run_crew.proofs.Names.{nth_step, none-some, some-is, nth-first, nth-inside, nth-old}
+use Rattle.run_crew.proofs.Names.{QueuePlan, hint_number, filter_in, place_in, Input, setup_in}
+use Rattle.run_crew.proofs.Names.{Setup, packet_hash, AreShared, HintCodes, word-says, oldest_first}
+use Rattle.run_crew.proofs.Names.{ByFilter, Leads, LooksUpFilter, Routes, HintView}
 use Rattle.run_crew.proofs.TurnListLemmas.{has_number, nth-oldest, oldest-nth}
 use Rattle.run_crew.proofs.WireTurnLemmas.{found-filter, id-at, look_in, no-clear, told}
 use Rattle.run_crew.specs.ArrivalLaws.{IsInTurn, WireKeepsCoupling}
-use Rattle.run_crew.specs.Routes.{ByFilter, Leads, LooksUpFilter, Routes, announcement}
-use Rattle.run_words.specs.HintViews.{HintView, after_step}
+use Rattle.run_crew.specs.Routes.{announcement}
+use Rattle.run_words.specs.HintViews.{after_step}
 
 -- ---- members of a list of steps
 

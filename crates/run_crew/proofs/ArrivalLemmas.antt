@@ -1,12 +1,9 @@
 -- Arrivals by queues.
-use Rattle.std.proofs.Common.{◌≡◌, ℕ, zero, suc, ◌<◌, ◌≤◌, List, [], ◌∷◌, All, length, refl}
-use Rattle.std.proofs.Common.{ap, ◌∙◌, arith}
-use Rattle.std.proofs.lemmas.Bool.{eq-eqb, ne_eqb}
-use Rattle.std.proofs.lemmas.List.Elements.{All-head, All-tail}
-use Rattle.history.specs.Lists.{arrivals_at}
-use Rattle.history.specs.declared.arrival.Arrival.{Arrival}
-use Rattle.hop_rule.specs.Events.{sum_below}
+use Rattle.std.proofs.lemmas.Bool.{eq-eqb}
 use Rattle.run_coupling.proofs.Lists.PlaceLemmas.{if_there, split-arrivals}
+use Rattle.run_crew.proofs.Names.{◌≡◌, ℕ, zero, suc, ◌<◌, ◌≤◌, List, [], ◌∷◌, All, length, refl, ap}
+use Rattle.run_crew.proofs.Names.{◌∙◌, arith, ne_eqb, All-head, All-tail, arrivals_at, Arrival}
+use Rattle.run_crew.proofs.Names.{sum_below}
 use Rattle.run_crew.proofs.AcceptedLemmas.{one-more}
 
 -- some queues together have at most all arrivals

@@ -1,9 +1,7 @@
 -- Functions made of what each number below a bound has.
-use Rattle.std.proofs.Common.{◌≡◌, ◌⊎◌, inl, inr, ℕ, ◌<◌, ◌≤◌, List, [], ◌∷◌, Option, Some, zero}
-use Rattle.std.proofs.Common.{None, suc, length, refl, ap, subst, arith, All}
-use Rattle.std.specs.Prelude.{slice_get}
-use Rattle.std.proofs.lemmas.Bool.{cases_lt}
-use Rattle.std.proofs.lemmas.List.Elements.{All-head, All-tail}
+use Rattle.run_crew.proofs.Names.{◌≡◌, ◌⊎◌, inl, inr, ℕ, ◌<◌, ◌≤◌, List, [], ◌∷◌, Option, Some}
+use Rattle.run_crew.proofs.Names.{zero, None, suc, length, refl, ap, subst, arith, All, slice_get}
+use Rattle.run_crew.proofs.Names.{cases_lt, All-head, All-tail}
 
 module _ {A : Type 0} (P : ℕ → A → Type 0) (n : ℕ) (other : A)
     (below : (k : ℕ) → k < n → (a : A) × P k a) (beyond : (k : ℕ) → n ≤ k → P k other) where

@@ -1,24 +1,11 @@
 -- A full count makes the totals of a run's end equal.
-use Rattle.std.proofs.Common.{◌≡◌, ◌≢◌, ◌⊎◌, inl, inr, ℕ, zero, suc, ◌+◌, ◌/◌, ◌%◌, ◌<◌, ◌≤◌, List}
-use Rattle.std.proofs.Common.{[], ◌∷◌, ◌++◌, Some, All, length, map, sym, refl, ap, ◌∙◌, arith}
-use Rattle.std.specs.Prelude.{slice_get}
-use Rattle.std.proofs.lemmas.Bool.{cases_lt}
-use Rattle.std.proofs.lemmas.List.{length-append, length-map}
+use Rattle.std.proofs.lemmas.List.{length-append}
 use Rattle.std.proofs.lemmas.Nat.{mod_below}
-use Rattle.linearization.specs.Orders.{StepBy}
-use Rattle.steer_base.specs.declared.choice.Chosen.{Chosen}
-use Rattle.history.specs.Lists.{lane_at, list_at}
-use Rattle.history.specs.declared.history.History.{History}
-use Rattle.history.specs.declared.sent.Sent.{Sent}
-use Rattle.hop_rule.specs.Events.{sum_below}
-use Rattle.hop_rule.specs.declared.sizes.BoardSizes.{BoardSizes}
-use Rattle.hop_rule.specs.declared.step.BoardStep.{BoardStep}
-use Rattle.hop_rule.proofs.Gates.{sum_one, sum_same}
+use Rattle.history.specs.Lists.{lane_at}
+use Rattle.hop_rule.proofs.Gates.{sum_one}
 use Rattle.board_api.specs.Closings.Closings.{own_in}
 use Rattle.board_api.specs.OwnSteps.{accepted_by}
 use Rattle.board_api.specs.declared.lists.BoardLists.{BoardLists}
-use Rattle.hop_delivery.specs.Orders.Turns.{Turn}
-use Rattle.steer_model.specs.Good.Inputs.{Input}
 use Rattle.run_coupling.specs.Laws.OneCount.{ChoicesAreOfTurns, TotalsAreEqual, choice_count}
 use Rattle.run_coupling.specs.Laws.OneCount.{delivered_count}
 use Rattle.run_coupling.specs.Coupling.Applications.{WasFoundAt}
@@ -28,15 +15,15 @@ use Rattle.run_coupling.proofs.Ends.TotalLemmas.{all-delivered}
 use Rattle.run_coupling.proofs.Lists.SumLemmas.{sum-le, sum-swap}
 use Rattle.run_coupling.proofs.Runs.ApplicationLemmas.{front-from}
 use Rattle.run_coupling.proofs.Runs.FactLemmas.{BoardFacts, facts_at_closings}
-use Rattle.run_workers.specs.Stages.{StageView}
-use Rattle.run_crew.specs.CountLaws.{FullCountsSuffice, IsFull, accepted_of, actor_of, played}
-use Rattle.run_crew.specs.CountLaws.{chosen_of, retired_of}
-use Rattle.run_crew.specs.Crews.{IsPlayed, pollers_of, ships_of}
-use Rattle.run_crew.specs.declared.seated.Seated.{Seated}
+use Rattle.run_crew.specs.CountLaws.{FullCountsSuffice, accepted_of, chosen_of, retired_of}
 use Rattle.run_crew.specs.DrainLaws.{AreDrained}
-use Rattle.run_crew.specs.QueueLaws.{ReceiveEnds}
-use Rattle.run_crew.specs.ReplyLaws.{TransmitEnds}
-use Rattle.run_crew.specs.Executions.{SeatTurns, queue_execution, reply_execution}
+use Rattle.run_crew.proofs.Names.{◌≡◌, ◌≢◌, ◌⊎◌, inl, inr, ℕ, zero, suc, ◌+◌, ◌/◌, ◌%◌, ◌<◌, ◌≤◌}
+use Rattle.run_crew.proofs.Names.{List, [], ◌∷◌, ◌++◌, Some, All, length, map, sym, refl, ap, ◌∙◌}
+use Rattle.run_crew.proofs.Names.{arith, slice_get, cases_lt, length-map, StepBy, Chosen, list_at}
+use Rattle.run_crew.proofs.Names.{History, Sent, sum_below, BoardSizes, BoardStep, sum_same, Turn}
+use Rattle.run_crew.proofs.Names.{Input, StageView, IsFull, actor_of, played, IsPlayed, pollers_of}
+use Rattle.run_crew.proofs.Names.{ships_of, Seated, ReceiveEnds, TransmitEnds, SeatTurns}
+use Rattle.run_crew.proofs.Names.{queue_execution, reply_execution}
 use Rattle.run_crew.proofs.AcceptedLemmas.{accepted-fit, accepted-is, answers-are, answers_in}
 use Rattle.run_crew.proofs.AcceptedLemmas.{by-producers, taken, taken_by}
 use Rattle.run_crew.proofs.ChoiceFunctions.{none-some, some-is}

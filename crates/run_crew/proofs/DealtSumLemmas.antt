@@ -1,17 +1,13 @@
 -- A count of the actors of all workers, summed by workers, and by the actors' numbers.
-use Rattle.std.proofs.Common.{◌≡◌, ◌⊎◌, inl, inr, ℕ, zero, suc, ◌+◌, ◌-◌, ◌*◌, ◌/◌, ◌%◌, ◌<◌, ◌≤◌}
-use Rattle.std.proofs.Common.{List, [], ◌∷◌, Option, Some, None, length, sym, refl, ap, ◌∙◌, arith}
-use Rattle.std.specs.Prelude.{slice_get}
 use Rattle.std.specs.List.{sum_by}
-use Rattle.std.proofs.lemmas.Bool.{cases_lt}
 use Rattle.std.proofs.lemmas.List.Sums.{sum_by-cons}
 use Rattle.std.proofs.lemmas.Nat.{div-mul-add, mod-mul-add}
 use native.Mathlib.Nat as nat
-use Rattle.hop_rule.specs.Events.{sum_below}
-use Rattle.hop_rule.proofs.Gates.{sum_same}
 use Rattle.run_coupling.proofs.Lists.SumLemmas.{sum-swap}
-use Rattle.run_crew.specs.CountLaws.{actor_of, played}
-use Rattle.run_crew.specs.declared.seated.Seated.{Seated}
+use Rattle.run_crew.proofs.Names.{◌≡◌, ◌⊎◌, inl, inr, ℕ, zero, suc, ◌+◌, ◌-◌, ◌*◌, ◌/◌, ◌%◌, ◌<◌}
+use Rattle.run_crew.proofs.Names.{◌≤◌, List, [], ◌∷◌, Option, Some, None, length, sym, refl, ap}
+use Rattle.run_crew.proofs.Names.{◌∙◌, arith, slice_get, cases_lt, sum_below, sum_same, actor_of}
+use Rattle.run_crew.proofs.Names.{played, Seated}
 use Rattle.run_crew.proofs.ChoiceFunctions.{item-at, none-some}
 
 -- ---- sums below a number

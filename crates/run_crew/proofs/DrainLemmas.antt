@@ -1,25 +1,22 @@
 -- The coupling invariants of the lanes that the workers empty.
-use Rattle.std.proofs.Common.{◌≡◌, ℕ, ◌+◌, ◌-◌, ◌/◌, ◌%◌, ◌<◌, List, Some, All, length, max}
-use Rattle.std.proofs.Common.{sym, refl, ap, ◌∙◌, subst, arith}
-use Rattle.std.specs.Prelude.{slice_get}
+use Rattle.std.proofs.Common.{max}
 use Rattle.hop_rule.specs.Boards.{lane_steps}
 use Rattle.hop_rule.specs.Deliveries.{Delivery}
 use Rattle.hop_rule.specs.Lanes.{idle, phase}
 use Rattle.hop_rule.specs.Sizes.{puller}
-use Rattle.hop_rule.specs.declared.sizes.BoardSizes.{BoardSizes}
-use Rattle.hop_rule.specs.declared.step.BoardStep.{BoardStep}
 use Rattle.board_api.specs.OwnSteps.{delivered_by, retired_by}
 use Rattle.board_api.specs.Seats.{BoardSeatView}
-use Rattle.steer_model.specs.State.Setup.{Setup, app_for}
+use Rattle.steer_model.specs.State.Setup.{app_for}
 use Rattle.run_workers.specs.Hands.Drains.{IsDrain, hand_phase, out_for}
 use Rattle.run_workers.specs.declared.drain.Drain.{Drain}
 use Rattle.run_workers.specs.declared.drain.Exit.{Exit}
 use Rattle.run_workers.specs.declared.drain.Exit.TheVariants.{Inboxes, Port}
 use Rattle.run_coupling.specs.Coupling.Ends.{retired_count}
-use Rattle.run_workers.specs.Actors.{KeepsDrain, actor_at}
-use Rattle.run_crew.specs.Crews.{IsPlayed, drains_of, ships_of}
-use Rattle.run_crew.specs.declared.seated.Seated.{Seated}
+use Rattle.run_workers.specs.Actors.{KeepsDrain}
 use Rattle.run_crew.specs.DrainLaws.{AreDrained, DrainsAreCoupled, DrainsKeepCoupling}
+use Rattle.run_crew.proofs.Names.{◌≡◌, ℕ, ◌+◌, ◌-◌, ◌/◌, ◌%◌, ◌<◌, List, Some, All, length, sym}
+use Rattle.run_crew.proofs.Names.{refl, ap, ◌∙◌, subst, arith, slice_get, BoardSizes, BoardStep}
+use Rattle.run_crew.proofs.Names.{Setup, actor_at, IsPlayed, drains_of, ships_of, Seated}
 use Rattle.run_crew.proofs.ExecutionLemmas.{actor-back}
 
 module _ (about : BoardSizes) (given : Setup) (exit : Exit) (crew : List Seated)

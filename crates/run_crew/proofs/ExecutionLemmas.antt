@@ -1,28 +1,18 @@
 -- The turns of the workers of a crew, and whose turns they are.
-use Rattle.std.proofs.Common.{◌≡◌, ◌≢◌, ◌⊎◌, inl, inr, ℕ, ◌+◌, ◌-◌, ◌*◌, ◌/◌, ◌%◌, ◌<◌, ◌≤◌}
-use Rattle.std.proofs.Common.{List, [], ◌∷◌, Some, All, length, map, max, sym, refl, ap, ◌∙◌}
-use Rattle.std.proofs.Common.{subst, arith}
-use Rattle.std.specs.Prelude.{slice_get}
-use Rattle.std.proofs.lemmas.Bool.{cases_lt, ne_eqb}
-use Rattle.std.proofs.lemmas.List.{get_or_past}
-use Rattle.std.proofs.lemmas.List.Elements.{All-cons, All-head, All-nil, All-tail}
+use Rattle.std.proofs.Common.{max}
 use Rattle.std.proofs.lemmas.Nat.{mod-mul-add, mod_below}
 use native.Mathlib.Nat as nat
-use Rattle.linearization.specs.Orders.{StepBy, steps_of}
-use Rattle.steer_base.specs.declared.choice.Chosen.{Chosen}
-use Rattle.history.specs.Lists.{list_at}
-use Rattle.hop_rule.specs.Owns.{puts_of}
-use Rattle.hop_rule.specs.declared.sizes.BoardSizes.{BoardSizes}
-use Rattle.hop_rule.specs.declared.step.BoardStep.{BoardStep}
-use Rattle.hop_delivery.specs.Orders.Turns.{Explained, Turn}
+use Rattle.hop_delivery.specs.Orders.Turns.{Explained}
 use Rattle.run_coupling.specs.Coupling.Turns.{KeepsTurns}
-use Rattle.run_workers.specs.Records.Polling.{choices_in}
-use Rattle.run_workers.specs.Actors.{Each, IsTurnOfOne, actor_at}
-use Rattle.run_workers.specs.Stages.{StageView}
-use Rattle.run_crew.specs.Crews.{AreWorking}
-use Rattle.run_crew.specs.declared.seated.Seated.{Seated}
+use Rattle.run_workers.specs.Actors.{IsTurnOfOne}
 use Rattle.run_crew.specs.QueueLaws.{CrewsHaveTurns}
-use Rattle.run_crew.specs.Executions.{AreTurnsOf, HasTurns, SeatTurns}
+use Rattle.run_crew.specs.Executions.{AreTurnsOf}
+use Rattle.run_crew.proofs.Names.{◌≡◌, ◌≢◌, ◌⊎◌, inl, inr, ℕ, ◌+◌, ◌-◌, ◌*◌, ◌/◌, ◌%◌, ◌<◌, ◌≤◌}
+use Rattle.run_crew.proofs.Names.{List, [], ◌∷◌, Some, All, length, map, sym, refl, ap, ◌∙◌, subst}
+use Rattle.run_crew.proofs.Names.{arith, slice_get, cases_lt, ne_eqb, get_or_past, All-cons}
+use Rattle.run_crew.proofs.Names.{All-head, All-nil, All-tail, StepBy, steps_of, Chosen, list_at}
+use Rattle.run_crew.proofs.Names.{puts_of, BoardSizes, BoardStep, Turn, choices_in, Each, actor_at}
+use Rattle.run_crew.proofs.Names.{StageView, AreWorking, Seated, HasTurns, SeatTurns}
 use Rattle.run_crew.proofs.ChoiceFunctions.{chosen, is-within, item-at, some-is}
 
 -- ---- turns of all seats

@@ -1,30 +1,17 @@
 -- Workers that have finished all packets have a full count.
-use Rattle.std.proofs.Common.{◌≡◌, ℕ, suc, ◌+◌, ◌-◌, ◌*◌, ◌/◌, ◌%◌, ◌<◌, ◌≤◌, List, []}
-use Rattle.std.proofs.Common.{◌∷◌, Option, Some, None, length, sym, refl, ap, ◌∙◌, arith}
-use Rattle.std.specs.Prelude.{slice_get}
-use Rattle.std.proofs.lemmas.List.{length-map}
-use Rattle.linearization.specs.Orders.{StepBy, steps_of}
-use Rattle.steer_base.specs.declared.put.Put.{Put}
-use Rattle.steer_base.specs.declared.put.Put.TheVariants.{At, Dropped}
-use Rattle.hint_words.specs.declared.step.HintStep.{HintStep}
-use Rattle.hop_delivery.specs.Orders.Turns.{Turn}
-use Rattle.hop_rule.specs.Events.{sum_below}
-use Rattle.hop_rule.proofs.Gates.{sum_same}
 use Rattle.run_coupling.proofs.Lists.SumLemmas.{sum-plus}
-use Rattle.run_words.specs.Lists.{oldest_first}
-use Rattle.steer_model.specs.State.Setup.{Setup}
-use Rattle.run_workers.specs.Actors.{actor_at}
 use Rattle.run_workers.specs.Hands.Pollers.{count_after}
-use Rattle.run_workers.specs.Records.Polling.{IsPolling, PolledTurn, accepted_turns}
-use Rattle.run_workers.specs.Records.Words.{Mark}
-use Rattle.run_workers.specs.Stages.{StageView}
+use Rattle.run_workers.specs.Records.Polling.{accepted_turns}
 use Rattle.run_workers.specs.Tally.{dropped_in, retired_in}
 use Rattle.run_workers.specs.declared.drain.Drain.{Drain}
-use Rattle.run_workers.specs.declared.poller.Poller.{Poller}
-use Rattle.run_crew.specs.CountLaws.{IsFull, accepted_of, actor_of, chosen_of, played, retired_of}
-use Rattle.run_crew.specs.Crews.{AreWorking, pollers_of, ships_of}
+use Rattle.run_crew.specs.CountLaws.{accepted_of, chosen_of, retired_of}
 use Rattle.run_crew.specs.Finished.{FinishedCrewsAreFull, finished_by_all}
-use Rattle.run_crew.specs.declared.seated.Seated.{Seated}
+use Rattle.run_crew.proofs.Names.{◌≡◌, ℕ, suc, ◌+◌, ◌-◌, ◌*◌, ◌/◌, ◌%◌, ◌<◌, ◌≤◌, List, [], ◌∷◌}
+use Rattle.run_crew.proofs.Names.{Option, Some, None, length, sym, refl, ap, ◌∙◌, arith, slice_get}
+use Rattle.run_crew.proofs.Names.{length-map, StepBy, steps_of, Put, At, Dropped, HintStep, Turn}
+use Rattle.run_crew.proofs.Names.{sum_below, sum_same, oldest_first, Setup, actor_at, IsPolling}
+use Rattle.run_crew.proofs.Names.{PolledTurn, Mark, StageView, Poller, IsFull, actor_of, played}
+use Rattle.run_crew.proofs.Names.{AreWorking, pollers_of, ships_of, Seated}
 use Rattle.run_crew.proofs.ChoiceFunctions.{item-at, none-some}
 use Rattle.run_crew.proofs.DealtSumLemmas.{dealt-sum, sum_by-plus}
 use Rattle.run_crew.proofs.ExecutionLemmas.{actor-is}

@@ -1,15 +1,13 @@
 -- A poller with an empty hand has chosen for a front of what arrived at its queue.
-use Rattle.std.proofs.Common.{◌≡◌, ℕ, ◌<◌, List, [], ◌∷◌, ◌++◌, Some, None, All, map, sym, refl, ap}
-use Rattle.std.proofs.Common.{◌∙◌, if◌then◌else◌}
 use Rattle.std.specs.List.{cons_option}
-use Rattle.std.proofs.lemmas.Bool.{lt-ltb}
-use Rattle.std.proofs.lemmas.List.Elements.{All-head, All-tail, filter_map-append}
+use Rattle.std.proofs.lemmas.List.Elements.{filter_map-append}
 use Rattle.rtrb.specs.Ring.{received}
-use Rattle.steer_base.specs.declared.choice.Chosen.{Chosen}
-use Rattle.history.specs.Lists.{arrivals_at}
 use Rattle.run_workers.specs.Records.Growth.{held}
 use Rattle.run_workers.specs.Records.Polling.{packet_of_number, ring_packets}
 use Rattle.run_crew.specs.ThreadLaws.{FrontsAreChosen}
+use Rattle.run_crew.proofs.Names.{◌≡◌, ℕ, ◌<◌, List, [], ◌∷◌, ◌++◌, Some, None, All, map, sym, refl}
+use Rattle.run_crew.proofs.Names.{ap, ◌∙◌, if◌then◌else◌, lt-ltb, All-head, All-tail, Chosen}
+use Rattle.run_crew.proofs.Names.{arrivals_at}
 
 -- numbers of packets all name packets
 all-named : (room : ℕ) (xs : List ℕ) → All (λ x. x < room) xs → ring_packets room xs ≡ xs

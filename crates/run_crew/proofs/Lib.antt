@@ -1,3 +1,4 @@
+pub mod Names
 pub mod TurnListLemmas
 pub mod OwnTableLemmas
 pub mod RuleLemmas

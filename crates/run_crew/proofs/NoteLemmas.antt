@@ -1,25 +1,14 @@
 -- What an application noted was for the packets that it took, in their order.
-use Rattle.std.proofs.Common.{◌≡◌, inl, inr, ℕ, zero, suc, ◌*◌, ◌%◌, ◌<◌, ◌≤◌, List, []}
-use Rattle.std.proofs.Common.{◌∷◌, Option, Some, None, length, map, sym, refl, ◌∙◌, subst, arith}
-use Rattle.std.specs.Prelude.{nat_le, nat_lt, slice_get, unwrap_or}
-use Rattle.std.specs.Option.{option_map}
-use Rattle.std.proofs.lemmas.Bool.{cases_Bool, leb-true, ltb-true}
-use Rattle.std.proofs.lemmas.Option.{slice_get-map}
-use Rattle.linearization.specs.Seats.{SeatView}
-use Rattle.steer_base.specs.Choices.{class_of}
-use Rattle.steer_base.specs.declared.limits.TheConstants.{MAX_SOCKET_SIZE}
-use Rattle.history.specs.declared.history.History.{History}
-use Rattle.history.specs.declared.sent.Sent.{Sent}
-use Rattle.hint_words.specs.declared.step.HintStep.{HintStep}
-use Rattle.hop_rule.specs.declared.step.BoardStep.{BoardStep}
-use Rattle.hop_rule.proofs.Lists.{none-some, some-is}
-use Rattle.steer_model.specs.Good.Inputs.{Input, setup_in}
-use Rattle.steer_model.specs.State.Setup.{packet_hash}
-use Rattle.run_coupling.specs.Coupling.Hints.{HintCodes, WasRead}
-use Rattle.run_words.specs.Values.{place_in, socket_size_in}
+use Rattle.std.proofs.lemmas.Bool.{leb-true}
+use Rattle.run_coupling.specs.Coupling.Hints.{WasRead}
 use Rattle.run_workers.specs.Records.Replying.{HasReadInside, HasStood, HasWritten, HasWrittenAll}
-use Rattle.run_workers.specs.Records.Words.{Note}
 use Rattle.run_crew.specs.ApplicationCoupling.{AreMadeFor, IsNoteFor}
+use Rattle.run_crew.proofs.Names.{◌≡◌, inl, inr, ℕ, zero, suc, ◌*◌, ◌%◌, ◌<◌, ◌≤◌, List, [], ◌∷◌}
+use Rattle.run_crew.proofs.Names.{Option, Some, None, length, map, sym, refl, ◌∙◌, subst, arith}
+use Rattle.run_crew.proofs.Names.{nat_le, nat_lt, slice_get, unwrap_or, option_map, cases_Bool}
+use Rattle.run_crew.proofs.Names.{ltb-true, slice_get-map, SeatView, class_of, MAX_SOCKET_SIZE}
+use Rattle.run_crew.proofs.Names.{History, Sent, HintStep, BoardStep, none-some, some-is, Input}
+use Rattle.run_crew.proofs.Names.{setup_in, packet_hash, HintCodes, place_in, socket_size_in, Note}
 use Rattle.run_crew.proofs.WithinLemmas.{place-within}
 
 -- ---- places and entries

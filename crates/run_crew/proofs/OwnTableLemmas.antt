@@ -1,27 +1,21 @@
 -- The table that a poller keeps is the one that its turns give.
-use Rattle.std.proofs.Common.{◌≡◌, ◌≢◌, ℕ, suc, ◌≤◌, ◌==◌, Bool, true, false, List, [], ◌∷◌, ◌++◌}
-use Rattle.std.proofs.Common.{Option, None, Some, if◌then◌else◌, length, map, drop, sym, refl, ap}
-use Rattle.std.proofs.Common.{◌∙◌, arith, append_assoc}
-use Rattle.std.specs.List.{fold}
-use Rattle.std.proofs.lemmas.List.{drop_all, length-map, length-set}
+use Rattle.std.proofs.Common.{append_assoc}
+use Rattle.std.proofs.lemmas.List.{drop_all, length-set}
 use Rattle.steer_base.specs.Counters.{rounded_up}
-use Rattle.steer_base.specs.declared.choice.Choice.{Choice}
-use Rattle.steer_base.specs.declared.put.Put.{Put}
-use Rattle.steer_base.specs.declared.put.Put.TheVariants.{At, Dropped}
-use Rattle.dev_flow_table.specs.Folds.{Placement, after_turn, table_after}
-use Rattle.dev_flow_table.specs.Tables.{Table, cleared, weighed}
-use Rattle.dev_flow_table.specs.Walks.{since_resize}
+use Rattle.dev_flow_table.specs.Folds.{Placement, table_after}
+use Rattle.dev_flow_table.specs.Tables.{weighed}
 use Rattle.dev_flow_table.proofs.WalksLemmas.{since_is_last_change}
 use mathlib.Core.Logic.{dite}
 use native.Mathlib.Decide.{ℕ_discrete}
-use Rattle.linearization.proofs.ListLemmas.{if_same, if_other}
-use Rattle.hint_words.specs.declared.step.HintStep.{HintStep}
-use Rattle.steer_model.specs.State.Setup.{Setup}
 use Rattle.run_words.specs.Values.{flows_in}
 use Rattle.run_workers.specs.Hands.Pollers.{as_told, refreshed}
-use Rattle.run_words.specs.Lists.{oldest_first}
-use Rattle.run_workers.specs.Records.Polling.{AllPolled, IsPolled, PolledTurn, last_flows}
-use Rattle.run_workers.specs.Records.Polling.{polled_table, table_of_turn, turns_in}
+use Rattle.run_workers.specs.Records.Polling.{AllPolled, IsPolled, last_flows, polled_table}
+use Rattle.run_workers.specs.Records.Polling.{table_of_turn}
+use Rattle.run_crew.proofs.Names.{◌≡◌, ◌≢◌, ℕ, suc, ◌≤◌, ◌==◌, Bool, true, false, List, [], ◌∷◌}
+use Rattle.run_crew.proofs.Names.{◌++◌, Option, None, Some, if◌then◌else◌, length, map, drop, sym}
+use Rattle.run_crew.proofs.Names.{refl, ap, ◌∙◌, arith, fold, length-map, Choice, Put, At, Dropped}
+use Rattle.run_crew.proofs.Names.{after_turn, Table, cleared, since_resize, if_same, if_other}
+use Rattle.run_crew.proofs.Names.{HintStep, Setup, oldest_first, PolledTurn, turns_in}
 use Rattle.run_crew.proofs.TurnListLemmas.{length_turned, since_more}
 
 -- ---- a turn among all

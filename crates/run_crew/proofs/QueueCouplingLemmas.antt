@@ -1,55 +1,39 @@
 -- A poller's record gives the coupling invariants of its queue.
-use Rattle.std.proofs.Common.{◌≡◌, ◌⊎◌, inl, inr, ℕ, ◌+◌, ◌*◌, ◌%◌, ◌^◌, ◌<◌, ◌≤◌, Bool, All}
-use Rattle.std.proofs.Common.{false, List, [], ◌∷◌, ◌++◌, Option, None, Some, IfSome, true≢false}
-use Rattle.std.proofs.Common.{if◌then◌else◌, length, map, take, drop, sym, refl, ap, ◌∙◌, subst}
-use Rattle.std.proofs.Common.{arith}
-use Rattle.std.specs.Prelude.{slice_index, unwrap_or}
-use Rattle.std.specs.List.{Contains, fold}
+use Rattle.std.proofs.Common.{IfSome, true≢false}
 use Rattle.std.specs.Option.{is_some}
-use Rattle.std.proofs.lemmas.Bool.{lt-ltb, le-leb}
+use Rattle.std.proofs.lemmas.Bool.{le-leb}
 use Rattle.std.proofs.lemmas.List.{length-replicate}
-use Rattle.std.proofs.lemmas.List.Elements.{All-head, All-tail}
-use Rattle.linearization.specs.Orders.{StepBy}
-use Rattle.linearization.specs.Seats.{SeatView}
-use Rattle.linearization.proofs.ListLemmas.{if_same, if_other}
-use Rattle.steer_base.specs.Choices.{class_of, looks_at_head, migrate, rps_choice_of}
+use Rattle.steer_base.specs.Choices.{rps_choice_of}
 use Rattle.steer_base.specs.Counters.{rounded_up}
-use Rattle.steer_base.specs.Sets.{has}
-use Rattle.steer_base.specs.declared.choice.Choice.{Choice}
-use Rattle.dev_flow_table.specs.Folds.{after_turn}
-use Rattle.dev_flow_table.specs.Tables.{IsClassOf, Table, cleared, entries, unset}
-use Rattle.dev_flow_table.specs.Walks.{since_resize}
-use Rattle.hint_words.specs.declared.step.HintStep.{HintStep}
-use Rattle.hop_rule.specs.Moments.{nth_step}
-use Rattle.hop_rule.specs.declared.sizes.BoardSizes.{BoardSizes}
-use Rattle.hop_rule.specs.declared.step.BoardStep.{BoardStep}
-use Rattle.hop_rule.specs.declared.step.BoardStep.TheVariants.{Gate, Weighed}
+use Rattle.dev_flow_table.specs.Tables.{IsClassOf, entries, unset}
 use Rattle.hop_rule.specs.declared.step.GateStep.TheVariants.{Read}
-use Rattle.hop_rule.proofs.Lists.{none-some, some-is}
-use Rattle.hop_rule.proofs.Moments.{nth-between, nth-first, nth-inside}
+use Rattle.hop_rule.proofs.Moments.{nth-between}
 use Rattle.hop_delivery.specs.Closings.TurnReads.{HasSeen, Knows}
 use Rattle.hop_delivery.specs.Orders.ReceiveSettings.{Queues, mask, online, receive_steering, rps}
-use Rattle.hop_delivery.specs.Orders.Runs.{Steering, Execution, goal_of, turns_of}
-use Rattle.hop_delivery.specs.Orders.Turns.{Turn}
-use Rattle.steer_model.specs.Good.Inputs.{Input, setup_in}
-use Rattle.steer_model.specs.State.Setup.{Setup, flow_number_of, packet_hash}
+use Rattle.hop_delivery.specs.Orders.Runs.{Steering, goal_of}
+use Rattle.steer_model.specs.State.Setup.{flow_number_of}
 use Rattle.run_words.specs.Values.{cpus_in, flows_in}
 use Rattle.run_workers.specs.Hands.Pollers.{LoadedHead, class_read, desired_read, online_read}
 use Rattle.run_workers.specs.Hands.Pollers.{plain_read}
-use Rattle.run_workers.specs.declared.poller.Poller.{Poller}
 use Rattle.run_workers.specs.declared.poller.Reading.{Reading}
 use Rattle.run_workers.proofs.Hands.ChoiceLemmas.{class_is}
-use Rattle.run_coupling.specs.Laws.SharedCodes.{AreShared}
-use Rattle.run_coupling.specs.Coupling.Hints.{HintCodes, LookedUp, entry_of}
+use Rattle.run_coupling.specs.Coupling.Hints.{LookedUp, entry_of}
 use Rattle.run_coupling.specs.Coupling.Inputs.{FlowsHaveOneHash, hash_of_flow, receive_queues}
 use Rattle.run_coupling.specs.Coupling.OwnTables.{IsByTable, class_by, goal_by, table_before}
 use Rattle.run_coupling.specs.Coupling.Queues.{FitReceiveWords}
-use Rattle.run_words.specs.Lists.{oldest_first}
-use Rattle.run_workers.specs.Records.Polling.{AllPolled, IsLastLook, IsPolled, IsPolling}
-use Rattle.run_workers.specs.Records.Polling.{PolledTurn, table_of_turn, turns_in}
-use Rattle.run_workers.specs.Records.Words.{Mark}
-use Rattle.run_crew.specs.QueueCoupling.{IsMarkedBy, IsQueueCoupled, PollersAreCoupled, words_read}
-use Rattle.run_crew.specs.QueueCoupling.{words_seen, words_of_turn}
+use Rattle.run_workers.specs.Records.Polling.{AllPolled, IsLastLook, IsPolled, table_of_turn}
+use Rattle.run_crew.specs.QueueCoupling.{IsQueueCoupled, words_read, words_seen, words_of_turn}
+use Rattle.run_crew.proofs.Names.{◌≡◌, ◌⊎◌, inl, inr, ℕ, ◌+◌, ◌*◌, ◌%◌, ◌^◌, ◌<◌, ◌≤◌, Bool, All}
+use Rattle.run_crew.proofs.Names.{false, List, [], ◌∷◌, ◌++◌, Option, None, Some, if◌then◌else◌}
+use Rattle.run_crew.proofs.Names.{length, map, take, drop, sym, refl, ap, ◌∙◌, subst, arith}
+use Rattle.run_crew.proofs.Names.{slice_index, unwrap_or, Contains, fold, lt-ltb, All-head}
+use Rattle.run_crew.proofs.Names.{All-tail, StepBy, SeatView, if_same, if_other, class_of}
+use Rattle.run_crew.proofs.Names.{looks_at_head, migrate, has, Choice, after_turn, Table, cleared}
+use Rattle.run_crew.proofs.Names.{since_resize, HintStep, nth_step, BoardSizes, BoardStep, Gate}
+use Rattle.run_crew.proofs.Names.{Weighed, none-some, some-is, nth-first, nth-inside, Execution}
+use Rattle.run_crew.proofs.Names.{turns_of, Turn, Input, setup_in, Setup, packet_hash, Poller}
+use Rattle.run_crew.proofs.Names.{AreShared, HintCodes, oldest_first, IsPolling, PolledTurn}
+use Rattle.run_crew.proofs.Names.{turns_in, Mark, IsMarkedBy, PollersAreCoupled}
 use Rattle.run_crew.proofs.OwnTableLemmas.{all_at, fold_rows, table_is}
 use Rattle.run_crew.proofs.RuleLemmas.{choice_looked, coded_look, goal, own_want, rule_looks}
 use Rattle.run_crew.proofs.TurnListLemmas.{TurnAt, front, nth-map, turn_at}

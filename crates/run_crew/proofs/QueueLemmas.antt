@@ -1,29 +1,13 @@
 -- The coupling invariants of the receive queues, from the records of their pollers.
-use Rattle.std.proofs.Common.{◌≡◌, ℕ, ◌%◌, ◌<◌, ◌≤◌, List}
-use Rattle.std.proofs.Common.{Some, length, map, sym, refl, ap, ◌∙◌, subst, arith}
-use Rattle.std.specs.Prelude.{slice_get, slice_index}
-use Rattle.std.specs.List.{Contains}
-use Rattle.linearization.specs.Seats.{SeatView}
-use Rattle.steer_base.specs.declared.choice.Chosen.{Chosen}
-use Rattle.hint_words.specs.declared.step.HintStep.{HintStep}
-use Rattle.history.specs.Lists.{arrivals_at, list_at}
-use Rattle.history.specs.declared.history.History.{History}
-use Rattle.hop_rule.specs.Moments.{nth_step}
-use Rattle.hop_rule.specs.declared.step.BoardStep.{BoardStep}
-use Rattle.hop_rule.proofs.Lists.{none-some, some-is}
-use Rattle.hop_delivery.specs.Orders.Runs.{Execution, turns_of}
-use Rattle.hop_delivery.specs.Orders.Turns.{Turn}
-use Rattle.steer_model.specs.Good.Inputs.{Input, setup_in}
-use Rattle.run_coupling.specs.Laws.SharedCodes.{AreShared}
-use Rattle.run_coupling.specs.Coupling.Hints.{HintCodes}
-use Rattle.run_workers.specs.Records.Polling.{IsPolling}
-use Rattle.run_crew.specs.QueueCoupling.{IsMarkedBy, IsQueueCoupled, PollersAreCoupled, words_seen}
-use Rattle.run_workers.specs.Actors.{Each}
-use Rattle.run_workers.specs.Stages.{StageView}
-use Rattle.run_crew.specs.Crews.{IsPlayed, pollers_of}
-use Rattle.run_crew.specs.declared.seated.Seated.{Seated}
-use Rattle.run_crew.specs.QueueLaws.{QueuesAreCoupled, QueuesKeepCoupling, ReceiveEnds}
-use Rattle.run_crew.specs.Executions.{SeatTurns, queue_execution}
+use Rattle.run_crew.specs.QueueCoupling.{IsQueueCoupled, words_seen}
+use Rattle.run_crew.specs.QueueLaws.{QueuesAreCoupled, QueuesKeepCoupling}
+use Rattle.run_crew.proofs.Names.{◌≡◌, ℕ, ◌%◌, ◌<◌, ◌≤◌, List, Some, length, map, sym, refl, ap}
+use Rattle.run_crew.proofs.Names.{◌∙◌, subst, arith, slice_get, slice_index, Contains, SeatView}
+use Rattle.run_crew.proofs.Names.{Chosen, HintStep, arrivals_at, list_at, History, nth_step}
+use Rattle.run_crew.proofs.Names.{BoardStep, none-some, some-is, Execution, turns_of, Turn, Input}
+use Rattle.run_crew.proofs.Names.{setup_in, AreShared, HintCodes, IsPolling, IsMarkedBy}
+use Rattle.run_crew.proofs.Names.{PollersAreCoupled, Each, StageView, IsPlayed, pollers_of, Seated}
+use Rattle.run_crew.proofs.Names.{ReceiveEnds, SeatTurns, queue_execution}
 use Rattle.run_crew.proofs.ChoiceFunctions.{chosen}
 use Rattle.run_crew.proofs.QueueTurnLemmas.{board-turns, has, home-count, keeps-poller, queue-is}
 use Rattle.run_crew.proofs.ExecutionLemmas.{keep-turns, none-beyond}

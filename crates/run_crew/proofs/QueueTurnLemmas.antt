@@ -1,21 +1,10 @@
 -- The turns of the receive queues explain the workers' lists, and are those of their journals.
-use Rattle.std.proofs.Common.{◌≡◌, ℕ, ◌/◌, ◌%◌, ◌<◌, List, Some, length, ap, ◌∙◌, subst}
-use Rattle.std.specs.Prelude.{slice_get}
-use Rattle.std.proofs.lemmas.List.{length-map}
-use Rattle.linearization.specs.Orders.{steps_of}
-use Rattle.steer_base.specs.declared.choice.Chosen.{Chosen}
-use Rattle.history.specs.Lists.{list_at}
-use Rattle.hop_rule.specs.declared.step.BoardStep.{BoardStep}
-use Rattle.plan_reader.specs.declared.plan.QueuePlan.{QueuePlan}
-use Rattle.run_workers.specs.declared.poller.Poller.{Poller}
-use Rattle.steer_model.specs.Good.Inputs.{Input}
-use Rattle.run_workers.specs.Records.Polling.{choices_in}
-use Rattle.run_workers.specs.Actors.{Each, KeepsPoller}
-use Rattle.run_workers.specs.Stages.{StageView}
-use Rattle.run_crew.specs.Crews.{IsPlayed, pollers_of}
-use Rattle.run_crew.specs.declared.seated.Seated.{Seated}
-use Rattle.run_crew.specs.QueueLaws.{QueuesKeepTurns, ReceiveEnds}
-use Rattle.run_crew.specs.Executions.{HasTurns, SeatTurns}
+use Rattle.run_workers.specs.Actors.{KeepsPoller}
+use Rattle.run_crew.specs.QueueLaws.{QueuesKeepTurns}
+use Rattle.run_crew.proofs.Names.{◌≡◌, ℕ, ◌/◌, ◌%◌, ◌<◌, List, Some, length, ap, ◌∙◌, subst}
+use Rattle.run_crew.proofs.Names.{slice_get, length-map, steps_of, Chosen, list_at, BoardStep}
+use Rattle.run_crew.proofs.Names.{QueuePlan, Poller, Input, choices_in, Each, StageView, IsPlayed}
+use Rattle.run_crew.proofs.Names.{pollers_of, Seated, ReceiveEnds, HasTurns, SeatTurns}
 use Rattle.run_crew.proofs.ExecutionLemmas.{AreBoardTurns, IsSeatOf, keep-turns, played-choices}
 use Rattle.run_crew.proofs.ExecutionLemmas.{played-number, seat-of, turns-of-board}
 

@@ -1,6 +1,4 @@
 -- The tries of a controller touch no lane.
-use Rattle.std.proofs.Common.{◌≡◌, ℕ, List, [], ◌∷◌, ◌++◌, Option, Some, None, refl, ap, ◌∙◌}
-use Rattle.std.proofs.Common.{Bool, length, sym}
 use Rattle.std.specs.List.{filter_map}
 use Rattle.steer_base.specs.Commands.{refusal}
 use Rattle.steer_base.specs.declared.command.Answer.{Answer}
@@ -10,24 +8,18 @@ use Rattle.steer_base.specs.declared.command.Command.{Command}
 use Rattle.steer_base.specs.declared.command.Command.TheVariants as give
 use Rattle.steer_base.specs.declared.command.Refused.{Refused}
 use Rattle.steer_base.specs.declared.cpu_mask.CpuMask.{CpuMask}
-use Rattle.steer_base.specs.declared.filter.Filter.{Filter}
 use Rattle.history.specs.declared.commanded.Commanded.{Commanded}
 use Rattle.hop_rule.specs.Boards.{lane_steps}
-use Rattle.hop_rule.specs.Owns.{PutMade, put_made, puts_of}
-use Rattle.hop_rule.specs.declared.step.BoardStep.TheVariants.{Counted, Gate, Lane, LaneIn}
-use Rattle.hop_rule.specs.declared.step.BoardStep.TheVariants.{LaneOut, OutCounted, Weighed}
+use Rattle.hop_rule.specs.Owns.{PutMade, put_made}
+use Rattle.hop_rule.specs.declared.step.BoardStep.TheVariants.{Counted, LaneIn, LaneOut, OutCounted}
 use Rattle.hop_rule.specs.declared.step.Change.TheVariants.{Nothing, Offered, Pulled}
 use Rattle.hop_rule.specs.declared.step.LaneStep.{LaneStep}
 use Rattle.hop_rule.specs.declared.step.LaneStep.TheVariants.{Freed, Given, Held, Missed, OutFreed}
-use Rattle.hop_rule.specs.declared.step.LaneStep.TheVariants.{OutHeld, OutMissed, Retired}
-use Rattle.hop_rule.specs.declared.sizes.BoardSizes.{BoardSizes}
-use Rattle.hop_rule.specs.declared.step.BoardStep.{BoardStep}
+use Rattle.hop_rule.specs.declared.step.LaneStep.TheVariants.{OutMissed, Retired}
 use Rattle.board_api.specs.Calls.Results.{Looked, looking}
 use Rattle.board_api.specs.Seats.{BoardSeatView}
-use Rattle.run_words.specs.Values.{filter_in}
 use Rattle.run_words.specs.declared.shared.Shared.{Shared}
 use Rattle.run_controller.specs.Gated.{IsGated}
-use Rattle.run_words.specs.HintViews.{HintView}
 use Rattle.run_controller.specs.Attempts.{DoesAtOnce, TriesBy, TriesUnless}
 use Rattle.run_controller.specs.Expiries.{ExpiresFirst, LooksAt}
 use Rattle.run_controller.specs.Journals.{AllAttempted, known_from}
@@ -36,6 +28,9 @@ use Rattle.run_controller.specs.Stages.{Stage}
 use Rattle.run_controller.specs.declared.change.Change.{Change}
 use Rattle.run_words.specs.declared.seats.Seats.{Seats}
 use Rattle.run_crew.specs.ThreadLaws.{ControllersTouchNoLane, TouchesNoLane}
+use Rattle.run_crew.proofs.Names.{◌≡◌, ℕ, List, [], ◌∷◌, ◌++◌, Option, Some, None, refl, ap, ◌∙◌}
+use Rattle.run_crew.proofs.Names.{Bool, length, sym, Filter, puts_of, Gate, Lane, Weighed, OutHeld}
+use Rattle.run_crew.proofs.Names.{BoardSizes, BoardStep, filter_in, HintView}
 
 -- A seat has the lane steps that it had.
 abbrev LanesStay : BoardSeatView → BoardSeatView → Type 0

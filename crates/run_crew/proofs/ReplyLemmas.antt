@@ -1,33 +1,15 @@
 -- The coupling invariants of the applications, from their records.
-use Rattle.std.proofs.Common.{◌≡◌, ℕ, ◌%◌, ◌<◌, ◌≤◌, List, [], Some}
-use Rattle.std.proofs.Common.{All, length, map, sym, refl, ap, ◌∙◌, subst, arith}
-use Rattle.std.specs.Prelude.{slice_get}
-use Rattle.std.specs.List.{Contains}
-use Rattle.std.proofs.lemmas.List.{get_or_past}
-use Rattle.std.proofs.lemmas.List.Elements.{All-nil}
-use Rattle.linearization.specs.Seats.{SeatView}
-use Rattle.hint_words.specs.declared.step.HintStep.{HintStep}
-use Rattle.history.specs.Lists.{list_at}
-use Rattle.history.specs.declared.history.History.{History}
-use Rattle.history.specs.declared.sent.Sent.{Sent}
-use Rattle.hop_rule.specs.Moments.{nth_step}
-use Rattle.hop_rule.specs.declared.step.BoardStep.{BoardStep}
-use Rattle.hop_rule.proofs.Lists.{none-some}
-use Rattle.hop_delivery.specs.Orders.Runs.{Execution, turns_of}
-use Rattle.hop_delivery.specs.Orders.Turns.{Turn}
-use Rattle.steer_model.specs.Good.Inputs.{Input, setup_in}
 use Rattle.run_workers.specs.Hands.Servers.{HasFlowsBelow}
-use Rattle.run_coupling.specs.Laws.SharedCodes.{AreShared}
-use Rattle.run_coupling.specs.Coupling.Hints.{AreRecorded, CameBy, HintCodes, Stands}
-use Rattle.run_crew.specs.ApplicationCoupling.{ApplicationsAreCoupled, IsApplicationCoupled}
-use Rattle.run_crew.specs.ApplicationCoupling.{maps_seen}
-use Rattle.run_workers.specs.Records.Replying.{IsReplying}
-use Rattle.run_workers.specs.Actors.{Each}
-use Rattle.run_workers.specs.Stages.{StageView}
-use Rattle.run_crew.specs.Crews.{IsPlayed, servers_of}
-use Rattle.run_crew.specs.declared.seated.Seated.{Seated}
-use Rattle.run_crew.specs.ReplyLaws.{ApplicationsKeepCoupling, ApplicationsCoupled, TransmitEnds}
-use Rattle.run_crew.specs.Executions.{SeatTurns, reply_execution}
+use Rattle.run_coupling.specs.Coupling.Hints.{AreRecorded, CameBy, Stands}
+use Rattle.run_crew.specs.ApplicationCoupling.{IsApplicationCoupled, maps_seen}
+use Rattle.run_crew.specs.ReplyLaws.{ApplicationsKeepCoupling, ApplicationsCoupled}
+use Rattle.run_crew.proofs.Names.{◌≡◌, ℕ, ◌%◌, ◌<◌, ◌≤◌, List, [], Some, All, length, map, sym}
+use Rattle.run_crew.proofs.Names.{refl, ap, ◌∙◌, subst, arith, slice_get, Contains, get_or_past}
+use Rattle.run_crew.proofs.Names.{All-nil, SeatView, HintStep, list_at, History, Sent, nth_step}
+use Rattle.run_crew.proofs.Names.{BoardStep, none-some, Execution, turns_of, Turn, Input, setup_in}
+use Rattle.run_crew.proofs.Names.{AreShared, HintCodes, ApplicationsAreCoupled, IsReplying, Each}
+use Rattle.run_crew.proofs.Names.{StageView, IsPlayed, servers_of, Seated, TransmitEnds, SeatTurns}
+use Rattle.run_crew.proofs.Names.{reply_execution}
 use Rattle.run_crew.proofs.ChoiceFunctions.{chosen}
 use Rattle.run_crew.proofs.ReplyTurnLemmas.{all-chosen, app-is, board-turns, has, keeps-server}
 use Rattle.run_crew.proofs.ExecutionLemmas.{keep-turns, none-beyond}

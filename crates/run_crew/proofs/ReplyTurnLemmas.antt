@@ -1,32 +1,14 @@
 -- The turns of the applications explain the workers' lists, and are those of their journals.
-use Rattle.std.proofs.Common.{◌≡◌, ◌⊎◌, inl, inr, ℕ, ◌/◌, ◌%◌, ◌<◌, ◌≤◌, List, [], ◌∷◌}
-use Rattle.std.proofs.Common.{◌++◌, Some, length, map, sym, refl, ap, ◌∙◌, subst, arith}
-use Rattle.std.specs.Prelude.{slice_get}
-use Rattle.std.proofs.lemmas.Bool.{cases_lt}
-use Rattle.std.proofs.lemmas.List.{get_or_past, map-append}
-use Rattle.linearization.specs.Orders.{StepBy, steps_of}
-use Rattle.steer_base.specs.declared.choice.Chosen.{Chosen}
-use Rattle.hint_words.specs.declared.step.HintStep.{HintStep}
-use Rattle.history.specs.Lists.{list_at}
-use Rattle.history.specs.declared.arrival.Arrival.{Arrival}
-use Rattle.history.specs.declared.history.History.{History}
-use Rattle.history.specs.declared.sent.Sent.{Sent}
-use Rattle.hop_rule.specs.declared.step.BoardStep.{BoardStep}
-use Rattle.hop_delivery.specs.Orders.Turns.{Turn}
-use Rattle.steer_model.specs.Good.Inputs.{Input}
-use Rattle.steer_model.specs.State.Setup.{Setup}
 use Rattle.run_workers.specs.declared.server.Server.{Server}
-use Rattle.run_words.specs.Lists.{oldest_first}
-use Rattle.run_workers.specs.Records.Polling.{choices_in}
-use Rattle.run_workers.specs.Records.Replying.{EachReplied, IsReplying, RepliedTurn, replies_in}
-use Rattle.run_workers.specs.Records.Replying.{reply_turns}
-use Rattle.run_workers.specs.Records.Words.{Note}
-use Rattle.run_workers.specs.Actors.{Each, KeepsServer}
-use Rattle.run_workers.specs.Stages.{StageView}
-use Rattle.run_crew.specs.Crews.{IsPlayed, servers_of}
-use Rattle.run_crew.specs.declared.seated.Seated.{Seated}
-use Rattle.run_crew.specs.ReplyLaws.{TransmitEnds}
-use Rattle.run_crew.specs.Executions.{HasTurns, SeatTurns}
+use Rattle.run_workers.specs.Records.Replying.{EachReplied, RepliedTurn, replies_in, reply_turns}
+use Rattle.run_workers.specs.Actors.{KeepsServer}
+use Rattle.run_crew.proofs.Names.{◌≡◌, ◌⊎◌, inl, inr, ℕ, ◌/◌, ◌%◌, ◌<◌, ◌≤◌, List, [], ◌∷◌, ◌++◌}
+use Rattle.run_crew.proofs.Names.{Some, length, map, sym, refl, ap, ◌∙◌, subst, arith, slice_get}
+use Rattle.run_crew.proofs.Names.{cases_lt, get_or_past, map-append, StepBy, steps_of, Chosen}
+use Rattle.run_crew.proofs.Names.{HintStep, list_at, Arrival, History, Sent, BoardStep, Turn, Input}
+use Rattle.run_crew.proofs.Names.{Setup, oldest_first, choices_in, IsReplying, Note, Each}
+use Rattle.run_crew.proofs.Names.{StageView, IsPlayed, servers_of, Seated, TransmitEnds, HasTurns}
+use Rattle.run_crew.proofs.Names.{SeatTurns}
 use Rattle.run_crew.proofs.ExecutionLemmas.{AreBoardTurns, IsSeatOf, played-choices, played-number}
 use Rattle.run_crew.proofs.ExecutionLemmas.{seat-of, turns-of-board}
 

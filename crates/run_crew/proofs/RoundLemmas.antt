@@ -1,17 +1,15 @@
 -- How all workers go on, one after the other.
-use Rattle.std.proofs.Common.{◌≡◌, ◌≢◌, ◌⊎◌, inl, inr, ℕ, zero, suc, ◌/◌, ◌%◌, ◌<◌, List, [], ◌∷◌}
-use Rattle.std.proofs.Common.{Bool, false, true, Some, length, sym, refl, ap, ◌∙◌, subst, arith}
 use Rattle.std.proofs.Common.{slice_set}
-use Rattle.std.specs.Prelude.{slice_get}
 use Rattle.std.proofs.lemmas.Bool.{cases_eq}
 use Rattle.std.proofs.lemmas.List.{length-set}
 use Rattle.run_workers.specs.Laws.{ArrivalsBecomeKnown}
-use Rattle.run_workers.specs.Stages.{StageView, stage_view}
 use Rattle.run_workers.specs.Workers.{GoesOn}
 use Rattle.run_workers.proofs.SameLemmas.{goes_both, goes_first}
-use Rattle.run_crew.specs.Crews.{AreWorking, IsPlayed, drains_of, pollers_of, servers_of, ships_of}
-use Rattle.run_crew.specs.Sweeps.{AllWork, CrewsGoOn, CrewsLearnArrivals, CrewsPlayOn, GoOn}
-use Rattle.run_crew.specs.declared.seated.Seated.{Seated}
+use Rattle.run_crew.specs.Sweeps.{AllWork, CrewsGoOn, CrewsLearnArrivals, CrewsPlayOn}
+use Rattle.run_crew.proofs.Names.{◌≡◌, ◌≢◌, ◌⊎◌, inl, inr, ℕ, zero, suc, ◌/◌, ◌%◌, ◌<◌, List, []}
+use Rattle.run_crew.proofs.Names.{◌∷◌, Bool, false, true, Some, length, sym, refl, ap, ◌∙◌, subst}
+use Rattle.run_crew.proofs.Names.{arith, slice_get, StageView, stage_view, AreWorking, IsPlayed}
+use Rattle.run_crew.proofs.Names.{drains_of, pollers_of, servers_of, ships_of, GoOn, Seated}
 use Rattle.run_crew.proofs.ChoiceFunctions.{is-within, item-at, some-is}
 
 -- ---- lists

@@ -1,25 +1,18 @@
 -- What a choice by the migration rule says of what was wanted and looked at.
-use Rattle.std.proofs.Common.{◌≡◌, ℕ, ◌==◌, ◌&&◌, not, Bool, true, false, List, Option, None, Some}
-use Rattle.std.proofs.Common.{if◌then◌else◌, sym, refl, ap, ◌∙◌, subst}
-use Rattle.linearization.specs.Seats.{SeatView}
-use Rattle.steer_base.specs.Choices.{by_entry, class_of, desired_cpu, looks_at_head, looks_from}
-use Rattle.steer_base.specs.Choices.{migrate}
+use Rattle.std.proofs.Common.{◌&&◌, not}
+use Rattle.steer_base.specs.Choices.{by_entry, desired_cpu, looks_from}
 use Rattle.steer_base.specs.Counters.{has_reached}
-use Rattle.steer_base.specs.Sets.{has}
-use Rattle.steer_base.specs.declared.choice.Choice.{Choice}
 use Rattle.steer_base.specs.declared.choice.Entry.{Entry}
 use Rattle.steer_base.specs.declared.choice.Why.{Why}
 use Rattle.steer_base.specs.declared.choice.Why.TheVariants.{Kept, Offline, Passed, Same}
 use Rattle.steer_base.specs.declared.cpu_mask.CpuMask.{CpuMask}
-use Rattle.hint_words.specs.declared.step.HintStep.{HintStep}
-use Rattle.hint_words.specs.declared.step.HintStep.TheVariants.{Load}
-use Rattle.hop_rule.proofs.Lists.{none-some}
-use Rattle.run_words.specs.Values.{socket_size_in}
-use Rattle.run_coupling.specs.Coupling.Hints.{HintCodes, LookedUp, entry_of}
-use Rattle.run_coupling.specs.Laws.SharedCodes.{AreShared}
-use Rattle.run_coupling.proofs.Runs.CodeLemmas.{word-says}
+use Rattle.run_coupling.specs.Coupling.Hints.{LookedUp, entry_of}
 use Rattle.run_workers.specs.Hands.Pollers.{socket_entry}
 use Rattle.run_workers.specs.Records.Polling.{HasLookedUp}
+use Rattle.run_crew.proofs.Names.{◌≡◌, ℕ, ◌==◌, Bool, true, false, List, Option, None, Some}
+use Rattle.run_crew.proofs.Names.{if◌then◌else◌, sym, refl, ap, ◌∙◌, subst, SeatView, class_of}
+use Rattle.run_crew.proofs.Names.{looks_at_head, migrate, has, Choice, HintStep, Load, none-some}
+use Rattle.run_crew.proofs.Names.{socket_size_in, HintCodes, AreShared, word-says}
 
 module _ (class : ℕ) (want : Option ℕ) (desired tail current : ℕ) (seen : ℕ) where
   abbrev a_choice : Option ℕ → ℕ → Why → Choice

@@ -1,53 +1,34 @@
 -- The coupling invariants of all threads, put together.
-use Rattle.std.proofs.Common.{◌≡◌, ◌⊎◌, inl, inr, ℕ, ◌+◌, ◌%◌, ◌<◌, ◌≤◌, List, [], ◌∷◌, Some}
-use Rattle.std.proofs.Common.{length, map, sym, ap, ◌∙◌, subst, arith}
-use Rattle.std.specs.Prelude.{slice_get}
-use Rattle.std.specs.List.{Contains}
-use Rattle.std.proofs.lemmas.Bool.{cases_lt}
-use Rattle.std.proofs.lemmas.List.{get_or_past, length-append, length-map}
-use Rattle.std.proofs.lemmas.List.FromFn.{length-range_with_len}
-use Rattle.std.specs.Option.{option_map}
+use Rattle.std.proofs.lemmas.List.{length-append}
 use Rattle.std.proofs.lemmas.List.Elements.{All-contains}
-use Rattle.std.proofs.lemmas.Option.{slice_get-map}
-use Rattle.linearization.specs.Orders.{StepBy, steps_of}
-use Rattle.linearization.specs.Seats.{SeatView}
-use Rattle.steer_base.specs.declared.choice.Chosen.{Chosen}
-use Rattle.hint_words.specs.declared.step.HintStep.{HintStep}
-use Rattle.hint_words.specs.declared.step.HintStep.TheVariants.{Store}
-use Rattle.history.specs.Lists.{arrivals_at, list_at}
-use Rattle.history.specs.declared.arrival.Arrival.{Arrival}
-use Rattle.history.specs.declared.history.History.{History}
-use Rattle.hop_rule.specs.Events.{sum_below}
 use Rattle.board_api.specs.Closings.Closings.{own_in}
-use Rattle.hop_delivery.specs.Orders.Runs.{Execution}
-use Rattle.hop_rule.specs.Moments.{nth_step}
-use Rattle.hop_rule.specs.declared.sizes.BoardSizes.{BoardSizes}
-use Rattle.steer_model.specs.Good.Inputs.{Input, setup_in}
-use Rattle.steer_model.specs.State.Setup.{app_for, packet_hash}
+use Rattle.steer_model.specs.State.Setup.{app_for}
 use Rattle.run_coupling.specs.Laws.OneCount.{TotalsAreEqual, choice_count}
 use Rattle.run_coupling.specs.Coupling.Deliveries.{AllDeliverTo}
-use Rattle.run_coupling.specs.Coupling.Hints.{StoresAreMeant}
 use Rattle.run_coupling.specs.Coupling.Marks.{IsMadeFor, KeepsMarks, MarksAreOfTurns, WasMarked}
 use Rattle.run_coupling.specs.Coupling.Marks.{WireIsInTurn, WritesAreMarked}
 use Rattle.run_coupling.specs.Coupling.Runs.{IsRun}
 use Rattle.run_coupling.proofs.Ends.ChoiceCountLemmas.{choices_suffice}
 use Rattle.run_coupling.proofs.Ends.HandLemmas.{empty_hands_retired}
 use Rattle.run_coupling.proofs.Lists.SumLemmas.{sum-le}
-use Rattle.run_crew.specs.ApplicationCoupling.{ApplicationsAreCoupled}
-use Rattle.run_crew.specs.QueueCoupling.{IsMarkedBy, PollersAreCoupled}
 use Rattle.run_workers.specs.Records.Storing.{StoresAreFor}
-use Rattle.run_words.specs.Lists.{oldest_first}
-use Rattle.run_workers.specs.Records.Words.{Mark, Note}
 use Rattle.run_crew.specs.StoreCoupling.{IsNoted, StoresAreCoupled, StoresAreMeantByEach}
-use Rattle.run_crew.specs.StoreCoupling.{StoresInTurn, WorkersStoresAreMeant}
-use Rattle.run_workers.specs.Actors.{IsTurnOfOne, actor_at}
-use Rattle.run_crew.specs.Crews.{drains_of, ships_of}
-use Rattle.run_crew.specs.declared.seated.Seated.{Seated}
+use Rattle.run_crew.specs.StoreCoupling.{WorkersStoresAreMeant}
+use Rattle.run_workers.specs.Actors.{IsTurnOfOne}
 use Rattle.run_crew.specs.DrainLaws.{DrainsAreCoupled}
 use Rattle.run_crew.specs.QueueLaws.{QueuesAreCoupled}
 use Rattle.run_crew.specs.ReplyLaws.{ApplicationsCoupled}
 use Rattle.run_crew.specs.RunLaws.{EndedRunsAreRuns, RunEnds}
-use Rattle.run_crew.specs.Executions.{queue_execution, reply_execution}
+use Rattle.run_crew.proofs.Names.{◌≡◌, ◌⊎◌, inl, inr, ℕ, ◌+◌, ◌%◌, ◌<◌, ◌≤◌, List, [], ◌∷◌, Some}
+use Rattle.run_crew.proofs.Names.{length, map, sym, ap, ◌∙◌, subst, arith, slice_get, Contains}
+use Rattle.run_crew.proofs.Names.{cases_lt, get_or_past, length-map, length-range_with_len}
+use Rattle.run_crew.proofs.Names.{option_map, slice_get-map, StepBy, steps_of, SeatView, Chosen}
+use Rattle.run_crew.proofs.Names.{HintStep, Store, arrivals_at, list_at, Arrival, History}
+use Rattle.run_crew.proofs.Names.{sum_below, Execution, nth_step, BoardSizes, Input, setup_in}
+use Rattle.run_crew.proofs.Names.{packet_hash, StoresAreMeant, ApplicationsAreCoupled, IsMarkedBy}
+use Rattle.run_crew.proofs.Names.{PollersAreCoupled, oldest_first, Mark, Note, StoresInTurn}
+use Rattle.run_crew.proofs.Names.{actor_at, drains_of, ships_of, Seated, queue_execution}
+use Rattle.run_crew.proofs.Names.{reply_execution}
 use Rattle.run_crew.proofs.ArrivalLemmas.{arrivals-below, none-at}
 use Rattle.run_crew.proofs.ChoiceFunctions.{is-within, item-at}
 use Rattle.run_crew.proofs.CountLemmas.{full_counts_suffice}

@@ -1,49 +1,32 @@
 -- The stores of a worker's seat give the coupling invariant of all stores.
-use Rattle.std.proofs.Common.{◌≡◌, inl, inr, ℕ, ◌+◌, ◌<◌, ◌≤◌, Bool, true}
-use Rattle.std.proofs.Common.{List, [], ◌∷◌, Option, None, Some, All, if◌then◌else◌, length}
-use Rattle.std.proofs.Common.{sym, refl, ap, ◌∙◌, subst, arith, ◌==◌, false}
-use Rattle.std.specs.Prelude.{nat_lt}
-use Rattle.std.specs.List.{Contains, position, position_or_len}
-use Rattle.std.specs.Option.{option_map}
-use Rattle.std.proofs.lemmas.Bool.{cases_Bool, ltb-true}
-use Rattle.std.proofs.lemmas.List.{length-map}
+use Rattle.std.specs.List.{position, position_or_len}
 use Rattle.std.proofs.lemmas.List.Elements.{All-contains}
-use Rattle.linearization.specs.Orders.{StepBy, steps_of}
-use Rattle.linearization.specs.Seats.{SeatView}
-use Rattle.linearization.proofs.ListLemmas.{if_same}
 use Rattle.steer_base.specs.Choices.{has_moved}
 use Rattle.steer_base.specs.Filters.{home_queue}
-use Rattle.steer_base.specs.declared.choice.Choice.{Choice}
-use Rattle.steer_base.specs.declared.filter.Filter.{Filter}
-use Rattle.steer_base.specs.declared.limits.TheConstants.{MAX_SOCKET_SIZE}
-use Rattle.plan_reader.specs.declared.plan.QueuePlan.{QueuePlan}
-use Rattle.history.specs.declared.history.History.{History}
 use Rattle.history.specs.declared.sock_write.SockWrite.{SockWrite}
 use Rattle.hint_words.specs.Loads.{IsStoredBy}
 use Rattle.hint_words.specs.Steps.{value_written}
-use Rattle.hint_words.specs.declared.step.HintStep.{HintStep}
-use Rattle.hint_words.specs.declared.step.HintStep.TheVariants.{Load, Store}
-use Rattle.hop_rule.specs.Moments.{nth_step}
-use Rattle.hop_rule.proofs.Lists.{none-some, some-is}
-use Rattle.hop_rule.proofs.Moments.{nth-inside, nth-last, nth-old}
-use Rattle.hop_delivery.specs.Orders.Runs.{Execution}
-use Rattle.hop_delivery.specs.Orders.Turns.{Turn}
 use Rattle.steer_model.specs.Good.Choices.{WasWritten}
-use Rattle.steer_model.specs.Good.Inputs.{Input, setup_in}
-use Rattle.steer_model.specs.State.Setup.{packet_hash}
 use Rattle.steer_model.specs.Steps.Pollers.{filter_for}
-use Rattle.run_words.specs.Numbers.{hint_number}
 use Rattle.run_words.specs.Values.{filter_word, place_word}
 use Rattle.run_words.specs.declared.hint_word.HintWord.TheVariants as word
 use Rattle.run_words.specs.declared.hint_word.TheConstants.{FILTER_WORDS, REDIRECTION_WORDS}
 use Rattle.run_words.specs.declared.hint_word.TheConstants.{STAND_WORDS}
-use Rattle.run_coupling.specs.Laws.SharedCodes.{AreShared}
-use Rattle.run_coupling.specs.Coupling.Hints.{HintCodes, StoresAreMeant, WasFiltered}
+use Rattle.run_coupling.specs.Coupling.Hints.{WasFiltered}
 use Rattle.run_coupling.specs.Coupling.Marks.{FoundSet, IsMarkedWrite}
 use Rattle.run_workers.specs.Records.Storing.{IsFilterOf, IsFor, IsWriteOf, StoresAreFor}
-use Rattle.run_workers.specs.Records.Words.{FoundBefore, Mark, Note}
+use Rattle.run_workers.specs.Records.Words.{FoundBefore}
 use Rattle.run_crew.specs.StoreCoupling.{IsEntryValue, IsNoted, StoresAreCoupled}
-use Rattle.run_crew.specs.StoreCoupling.{StoresAreMeantByEach, StoresInTurn, WorkersStoresAreMeant}
+use Rattle.run_crew.specs.StoreCoupling.{StoresAreMeantByEach, WorkersStoresAreMeant}
+use Rattle.run_crew.proofs.Names.{◌≡◌, inl, inr, ℕ, ◌+◌, ◌<◌, ◌≤◌, Bool, true, List, [], ◌∷◌}
+use Rattle.run_crew.proofs.Names.{Option, None, Some, All, if◌then◌else◌, length, sym, refl, ap}
+use Rattle.run_crew.proofs.Names.{◌∙◌, subst, arith, ◌==◌, false, nat_lt, Contains, option_map}
+use Rattle.run_crew.proofs.Names.{cases_Bool, ltb-true, length-map, StepBy, steps_of, SeatView}
+use Rattle.run_crew.proofs.Names.{if_same, Choice, Filter, MAX_SOCKET_SIZE, QueuePlan, History}
+use Rattle.run_crew.proofs.Names.{HintStep, Load, Store, nth_step, none-some, some-is, nth-inside}
+use Rattle.run_crew.proofs.Names.{nth-last, nth-old, Execution, Turn, Input, setup_in, packet_hash}
+use Rattle.run_crew.proofs.Names.{hint_number, AreShared, HintCodes, StoresAreMeant, Mark, Note}
+use Rattle.run_crew.proofs.Names.{StoresInTurn}
 use Rattle.run_crew.proofs.NoteLemmas.{class_below}
 use Rattle.run_crew.proofs.TurnListLemmas.{contains_split, has_number}
 

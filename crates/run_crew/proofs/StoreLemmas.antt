@@ -1,44 +1,30 @@
 -- What the stores of the controller and of the wire were for.
-use Rattle.std.proofs.Common.{◌≡◌, ◌⊎◌, inl, inr, ℕ, ◌<◌, Bool, List, [], ◌∷◌, None, Some, All}
-use Rattle.std.proofs.Common.{length, map, sym, ◌∙◌, subst, arith}
-use Rattle.std.specs.Prelude.{nat_lt}
-use Rattle.std.specs.List.{Contains}
-use Rattle.std.proofs.lemmas.Bool.{and_parts, cases_eq, ltb-true, ne_eqb}
-use Rattle.std.proofs.lemmas.List.Elements.{All-cons, All-head, All-nil, All-tail}
-use Rattle.linearization.specs.Seats.{SeatView}
-use Rattle.linearization.proofs.ListLemmas.{if_same, if_other}
+use Rattle.std.proofs.lemmas.Bool.{and_parts, cases_eq}
 use Rattle.steer_base.specs.declared.command.Command.{Command}
 use Rattle.steer_base.specs.declared.command.Command.TheVariants as give
-use Rattle.steer_base.specs.declared.filter.Filter.{Filter}
-use Rattle.steer_base.specs.declared.limits.TheConstants.{MAX_SOCKET_SIZE}
 use Rattle.rss_table.specs.declared.reta.TheConstants.{RETA_ENTRIES}
 use Rattle.hint_words.specs.Steps.{value_written}
-use Rattle.hint_words.specs.declared.step.HintStep.{HintStep}
-use Rattle.hint_words.specs.declared.step.HintStep.TheVariants.{ClearIf, Load, Store}
-use Rattle.history.specs.declared.arrival.Arrival.{Arrival}
 use Rattle.history.specs.declared.commanded.Commanded.{Commanded}
-use Rattle.history.specs.declared.history.History.{History}
 use Rattle.plan_reader.specs.declared.plan.Plan.{Plan}
-use Rattle.hop_delivery.specs.Orders.Runs.{Execution}
 use Rattle.steer_model.specs.Good.Arrivals.{EntryFrom}
-use Rattle.steer_model.specs.Good.Inputs.{Input, WasDone}
+use Rattle.steer_model.specs.Good.Inputs.{WasDone}
 use Rattle.steer_model.specs.Good.Writes.{StoodAt}
-use Rattle.run_words.specs.Numbers.{hint_number}
 use Rattle.run_words.specs.declared.hint_word.HintWord.TheVariants as word
-use Rattle.run_coupling.specs.Laws.SharedCodes.{AreShared}
-use Rattle.run_coupling.specs.Coupling.Hints.{HintCodes, StoresAreMeant}
 use Rattle.run_coupling.specs.Coupling.Tries.{Try}
-use Rattle.run_words.specs.Lists.{oldest_first}
 use Rattle.run_coupling.proofs.Tries.GivenLemmas.{all-joined, all_within}
 use Rattle.run_coupling.proofs.Tries.RangeLemmas.{IsWithinPlan}
-use Rattle.hop_rule.specs.Moments.{nth_step}
-use Rattle.run_crew.specs.StoreCoupling.{IsEntryValue, StoresInTurn, TellsNothing}
+use Rattle.run_crew.specs.StoreCoupling.{IsEntryValue, TellsNothing}
+use Rattle.run_crew.proofs.Names.{◌≡◌, ◌⊎◌, inl, inr, ℕ, ◌<◌, Bool, List, [], ◌∷◌, None, Some, All}
+use Rattle.run_crew.proofs.Names.{length, map, sym, ◌∙◌, subst, arith, nat_lt, Contains, ltb-true}
+use Rattle.run_crew.proofs.Names.{ne_eqb, All-cons, All-head, All-nil, All-tail, SeatView, if_same}
+use Rattle.run_crew.proofs.Names.{if_other, Filter, MAX_SOCKET_SIZE, HintStep, ClearIf, Load, Store}
+use Rattle.run_crew.proofs.Names.{Arrival, History, Execution, Input, hint_number, AreShared}
+use Rattle.run_crew.proofs.Names.{HintCodes, StoresAreMeant, oldest_first, nth_step, StoresInTurn}
+use Rattle.run_crew.proofs.Names.{BoardSizes, BoardStep}
 use Rattle.run_crew.proofs.StoreCouplingLemmas.{own_store}
 use Rattle.run_crew.proofs.TurnListLemmas.{nth_contains}
 use Rattle.run_crew.specs.ArrivalLaws.{ArrivalsAreCoupled}
 use Rattle.run_controller.specs.Laws.{CommandsAreCoupled, IsStoredFor}
-use Rattle.hop_rule.specs.declared.sizes.BoardSizes.{BoardSizes}
-use Rattle.hop_rule.specs.declared.step.BoardStep.{BoardStep}
 use Rattle.run_crew.proofs.ChoiceFunctions.{at-place, none-some, some-is}
 
 abbrev Hint : Type 0

@@ -1,19 +1,16 @@
 -- A turn among all turns of a producer, and what was noted of the turns before it.
-use Rattle.std.proofs.Common.{◌≡◌, ◌⊎◌, inl, inr, ℕ, zero, suc, ◌≤◌, List, [], ◌∷◌, ◌++◌, Some}
-use Rattle.std.proofs.Common.{length, length-append, map, take, drop, sym, refl, ap, ◌∙◌, arith}
-use Rattle.std.specs.Prelude.{◌-◌, slice_get}
-use Rattle.std.specs.List.{Contains, fold}
+use Rattle.std.proofs.Common.{length-append}
+use Rattle.std.specs.Prelude.{◌-◌}
 use Rattle.std.proofs.Math.Seq.{take-append_seam}
-use Rattle.std.proofs.lemmas.List.{drop-append-le, length-map, map-append, take-append-le}
+use Rattle.std.proofs.lemmas.List.{drop-append-le, take-append-le}
 use Rattle.std.proofs.lemmas.List.Sums.{fold-append}
-use Rattle.dev_flow_table.specs.Folds.{after_turn}
-use Rattle.dev_flow_table.specs.Tables.{Table}
-use Rattle.hop_rule.specs.Moments.{nth_step}
-use Rattle.hop_rule.proofs.Lists.{none-some, some-is}
-use Rattle.hop_rule.proofs.Moments.{nth-first, nth-inside, nth-last, nth-member, nth-old}
-use Rattle.hop_delivery.specs.Orders.Turns.{Turn}
+use Rattle.hop_rule.proofs.Moments.{nth-member}
 use Rattle.run_workers.specs.Hands.Pollers.{as_told}
-use Rattle.run_words.specs.Lists.{oldest_first}
+use Rattle.run_crew.proofs.Names.{◌≡◌, ◌⊎◌, inl, inr, ℕ, zero, suc, ◌≤◌, List, [], ◌∷◌, ◌++◌, Some}
+use Rattle.run_crew.proofs.Names.{length, map, take, drop, sym, refl, ap, ◌∙◌, arith, slice_get}
+use Rattle.run_crew.proofs.Names.{Contains, fold, length-map, map-append, after_turn, Table}
+use Rattle.run_crew.proofs.Names.{nth_step, none-some, some-is, nth-first, nth-inside, nth-last}
+use Rattle.run_crew.proofs.Names.{nth-old, Turn, oldest_first}
 
 pub length_turned : {A : Type 0} (xs : List A) → length (oldest_first xs) ≡ length xs
 length_turned [] = refl

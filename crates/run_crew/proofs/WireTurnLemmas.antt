@@ -1,28 +1,20 @@
 -- The wire announces the packets in turn: it looks for a packet's filter before it announces it.
-use Rattle.std.proofs.Common.{◌≡◌, ◌⊎◌, inl, inr, ℕ, zero, suc, ◌+◌, ◌<◌, ◌≤◌, ◌==◌, Bool, true}
-use Rattle.std.proofs.Common.{false, List, [], ◌∷◌, Option, Some, None, length, sym, refl, ap}
-use Rattle.std.proofs.Common.{◌∙◌, subst, arith, if◌then◌else◌}
-use Rattle.std.specs.Prelude.{drop, slice_get, slice_index}
+use Rattle.std.specs.Prelude.{drop}
 use mathlib.Core.Logic.{dite}
 use native.Mathlib.Decide.{ℕ_discrete}
-use Rattle.linearization.proofs.ListLemmas.{if_same, if_other}
-use Rattle.steer_base.specs.Arrivals.{Route, filter_place, route, table_place}
-use Rattle.steer_base.specs.declared.filter.Filter.{Filter}
-use Rattle.rss_table.specs.Redirection.{Redirection}
-use Rattle.hint_words.specs.declared.step.HintStep.{HintStep}
-use Rattle.hint_words.specs.declared.step.HintStep.TheVariants.{ClearIf, Load, Store}
+use Rattle.steer_base.specs.Arrivals.{Route, route}
 use Rattle.history.specs.Regular.{route_of}
-use Rattle.history.specs.declared.arrival.Arrival.{Arrival}
-use Rattle.hop_rule.specs.Moments.{nth_step}
-use Rattle.hop_rule.proofs.Lists.{none-some, some-is}
-use Rattle.hop_rule.proofs.Moments.{nth-first, nth-inside, nth-last, nth-old}
-use Rattle.run_words.specs.HintViews.{HintView}
-use Rattle.run_words.specs.Numbers.{hint_number}
-use Rattle.run_words.specs.Values.{filter_in}
 use Rattle.run_words.specs.declared.hint_word.HintWord.TheVariants as word
 use Rattle.run_coupling.proofs.Lists.PlaceLemmas.{AreNumbered}
-use Rattle.steer_model.specs.State.Setup.{Setup, packet_hash}
-use Rattle.run_crew.specs.Routes.{ByFilter, Leads, LooksUpFilter, Routes, announcement}
+use Rattle.run_crew.specs.Routes.{announcement}
+use Rattle.run_crew.proofs.Names.{◌≡◌, ◌⊎◌, inl, inr, ℕ, zero, suc, ◌+◌, ◌<◌, ◌≤◌, ◌==◌, Bool, true}
+use Rattle.run_crew.proofs.Names.{false, List, [], ◌∷◌, Option, Some, None, length, sym, refl, ap}
+use Rattle.run_crew.proofs.Names.{◌∙◌, subst, arith, if◌then◌else◌, slice_get, slice_index, if_same}
+use Rattle.run_crew.proofs.Names.{if_other, filter_place, table_place, Filter, Redirection}
+use Rattle.run_crew.proofs.Names.{HintStep, ClearIf, Load, Store, Arrival, nth_step, none-some}
+use Rattle.run_crew.proofs.Names.{some-is, nth-first, nth-inside, nth-last, nth-old, HintView}
+use Rattle.run_crew.proofs.Names.{hint_number, filter_in, Setup, packet_hash, ByFilter, Leads}
+use Rattle.run_crew.proofs.Names.{LooksUpFilter, Routes}
 
 -- ---- lists with more loads
 

@@ -1,24 +1,16 @@
 -- The wire sends each packet to a queue of the plan.
-use Rattle.std.proofs.Common.{◌≡◌, inl, inr, ℕ, zero, suc, ◌-◌, ◌%◌, ◌/◌, ◌^◌, ◌<◌, ◌||◌, ◌==◌}
-use Rattle.std.proofs.Common.{Bool, true, false, List, [], ◌∷◌, Option, Some, None, All, length}
-use Rattle.std.proofs.Common.{sym, refl, ap, ◌∙◌, subst, arith}
-use Rattle.std.specs.Prelude.{nat_le, nat_lt, slice_index, unwrap_or}
-use Rattle.std.proofs.lemmas.Bool.{cases_Bool, leb-false, ltb-false}
-use Rattle.std.proofs.lemmas.List.Elements.{All-cons, All-head, All-nil, All-tail}
-use Rattle.steer_base.specs.Arrivals.{filter_place, table_place}
-use Rattle.steer_base.specs.declared.filter.Filter.{Filter}
-use Rattle.history.specs.declared.arrival.Arrival.{Arrival}
-use Rattle.plan_reader.specs.declared.plan.QueuePlan.{QueuePlan}
-use Rattle.rss_table.specs.Redirection.{Redirection}
-use Rattle.steer_model.specs.Good.Inputs.{Input, setup_in}
-use Rattle.steer_model.specs.State.Setup.{packet_hash}
-use Rattle.std.proofs.lemmas.List.{length-map}
-use Rattle.run_words.specs.Values.{filter_in, place_in}
-use Rattle.run_words.specs.Lists.{oldest_first}
+use Rattle.std.proofs.Common.{◌||◌}
+use Rattle.std.proofs.lemmas.Bool.{leb-false, ltb-false}
 use Rattle.run_coupling.proofs.Tries.GivenLemmas.{all-joined}
-use Rattle.run_crew.specs.Routes.{ByFilter, Leads, LooksUpFilter, Routes}
-use Rattle.run_words.specs.HintViews.{HintView}
 use Rattle.run_crew.specs.ThreadLaws.{ArrivalsAreWithin}
+use Rattle.run_crew.proofs.Names.{◌≡◌, inl, inr, ℕ, zero, suc, ◌-◌, ◌%◌, ◌/◌, ◌^◌, ◌<◌, ◌==◌, Bool}
+use Rattle.run_crew.proofs.Names.{true, false, List, [], ◌∷◌, Option, Some, None, All, length, sym}
+use Rattle.run_crew.proofs.Names.{refl, ap, ◌∙◌, subst, arith, nat_le, nat_lt, slice_index}
+use Rattle.run_crew.proofs.Names.{unwrap_or, cases_Bool, All-cons, All-head, All-nil, All-tail}
+use Rattle.run_crew.proofs.Names.{filter_place, table_place, Filter, Arrival, QueuePlan}
+use Rattle.run_crew.proofs.Names.{Redirection, Input, setup_in, packet_hash, length-map, filter_in}
+use Rattle.run_crew.proofs.Names.{place_in, oldest_first, ByFilter, Leads, LooksUpFilter, Routes}
+use Rattle.run_crew.proofs.Names.{HintView}
 use Rattle.run_crew.proofs.ChoiceFunctions.{none-some, some-is}
 
 or-left : (a b : Bool) → (a || b) ≡ false → a ≡ false

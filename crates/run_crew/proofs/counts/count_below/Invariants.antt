@@ -1,6 +1,5 @@
-use Rattle.std.proofs.Common.{◌≡◌, ◌≤◌, ◌*◌}
-use Rattle.hop_rule.specs.Events.{sum_below}
 use Rattle.run_crew.specs.Counts.{counted}
+use Rattle.run_crew.proofs.Names.{◌≡◌, ◌≤◌, ◌*◌, sum_below}
 use Rattle.run_crew.proofs.counts.count_below.Given as goal
 
 abbrev pub invariant-loop-actor : goal.invariant-loop-actor

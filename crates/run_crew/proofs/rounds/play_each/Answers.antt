@@ -1,6 +1,6 @@
-use Rattle.std.proofs.Common.{arith, slice_index_or}
+use Rattle.std.proofs.Common.{slice_index_or}
 use Rattle.std.proofs.lemmas.Option.{slice_get-get_or}
-use Rattle.run_workers.specs.Stages.{stage_view}
+use Rattle.run_crew.proofs.Names.{arith, stage_view}
 use Rattle.run_crew.proofs.RoundLemmas.{all_after, go_first, go_set}
 use Rattle.run_crew.proofs.rounds.play_each.Goals as goal
 

@@ -1,5 +1,4 @@
-use Rattle.run_workers.specs.Stages.{stage_view}
-use Rattle.run_crew.specs.Sweeps.{GoOn}
+use Rattle.run_crew.proofs.Names.{stage_view, GoOn}
 use Rattle.run_crew.proofs.rounds.play_each.Given as goal
 
 abbrev pub invariant-loop-i : goal.invariant-loop-i

@@ -1,6 +1,5 @@
-use Rattle.std.proofs.Common.{◌∙◌, ap, length, refl, subst, sym}
-use Rattle.run_crew.specs.CountLaws.{IsFull}
 use Rattle.run_crew.specs.Sweeps.{all_free}
+use Rattle.run_crew.proofs.Names.{◌∙◌, ap, length, refl, subst, sym, IsFull}
 use Rattle.run_crew.proofs.RoundLemmas.{all_after, both_ways, go_both, go_first}
 use Rattle.run_crew.proofs.rounds.sweep.Goals as goal
 

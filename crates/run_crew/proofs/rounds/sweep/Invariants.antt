@@ -1,7 +1,6 @@
 use Rattle.std.specs.Prelude.{◌≡◌, length, true}
-use Rattle.run_workers.specs.Stages.{stage_view}
-use Rattle.run_crew.specs.CountLaws.{IsFull}
-use Rattle.run_crew.specs.Sweeps.{GoOn, all_free}
+use Rattle.run_crew.specs.Sweeps.{all_free}
+use Rattle.run_crew.proofs.Names.{stage_view, IsFull, GoOn}
 use Rattle.run_crew.proofs.rounds.sweep.Given as goal
 
 abbrev pub invariant-loop : goal.invariant-loop
