@@ -1,23 +1,12 @@
 -- What the workers of a run that is over play: all its queues and all its applications.
-use Rattle.std.proofs.Common.{◌≡◌, ℕ, ◌+◌, ◌-◌, ◌*◌, ◌<◌, max, Global, Some, List, [], Vec}
-use Rattle.std.proofs.Common.{length, map, slice_get, slice_index_or, sym, ap, ◌∙◌, subst, arith}
-use Rattle.std.proofs.lemmas.List.{length-map}
-use Rattle.std.proofs.lemmas.Option.{slice_get_within}
-use Rattle.rtrb.specs.Ring.{IsPair}
-use Rattle.steer_base.specs.Journals.{Journal, journal}
-use Rattle.hop_rule.specs.declared.sizes.BoardSizes.{BoardSizes}
-use Rattle.plan_reader.specs.declared.plan.Plan.{Plan}
-use Rattle.steer_model.specs.Good.Inputs.{Input}
-use Rattle.run_workers.specs.declared.poller.Poller.{Poller}
-use Rattle.run_workers.specs.declared.server.Server.{Server}
-use Rattle.run_workers.specs.Actors.{actor_at}
-use Rattle.run_crew.specs.Crews.{IsPlayed, pollers_of, servers_of}
-use Rattle.run_crew.specs.declared.seated.Seated.{Seated}
-use Rattle.workers.specs.declared.start.Run.{Run}
-use Rattle.workers.specs.Left.{all_played}
+use Rattle.std.proofs.Common.{max, Global, Vec}
 use Rattle.workers.specs.Lists.{ArePairs}
-use Rattle.workers.specs.Overs.{IsOver}
-use Rattle.workers.specs.GatheredHands.{HaveAll, dealt_items}
+use Rattle.workers.specs.GatheredHands.{HaveAll}
+use Rattle.workers.proofs.Names.{◌≡◌, ℕ, ◌+◌, ◌-◌, ◌*◌, ◌<◌, Some, List, [], length, map, slice_get}
+use Rattle.workers.proofs.Names.{slice_index_or, sym, ap, ◌∙◌, subst, arith, length-map}
+use Rattle.workers.proofs.Names.{slice_get_within, IsPair, Journal, journal, BoardSizes, Plan}
+use Rattle.workers.proofs.Names.{Input, Poller, Server, actor_at, IsPlayed, pollers_of, servers_of}
+use Rattle.workers.proofs.Names.{Seated, Run, all_played, IsOver, dealt_items}
 use Rattle.workers.proofs.PlayedLemmas.{all-at, all-count, all-dealt, all-taken, have-all}
 
 some-same : {X : Type 0} {x y : X} → Some x ≡ Some y → x ≡ y

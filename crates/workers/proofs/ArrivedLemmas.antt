@@ -1,12 +1,10 @@
 -- The numbers of the packets that arrived.
-use Rattle.std.proofs.Common.{◌≡◌, ℕ, zero, suc, ◌+◌, ◌<◌, ◌≤◌, List, [], ◌∷◌, All, Bool, true}
-use Rattle.std.proofs.Common.{false, map, sym, subst, arith}
-use Rattle.std.specs.List.{range_with_len}
 use Rattle.std.specs.Prelude.{◌==◌}
-use Rattle.std.proofs.lemmas.List.Elements.{All-cons, All-head, All-nil, All-tail}
-use Rattle.history.specs.Lists.{arrivals_at}
-use Rattle.history.specs.declared.arrival.Arrival.{Arrival}
+use Rattle.std.proofs.lemmas.List.Elements.{All-cons, All-head, All-tail}
 use Rattle.run_coupling.proofs.Lists.PlaceLemmas.{if_there, split-arrivals}
+use Rattle.workers.proofs.Names.{◌≡◌, ℕ, zero, suc, ◌+◌, ◌<◌, ◌≤◌, List, [], ◌∷◌, All, Bool, true}
+use Rattle.workers.proofs.Names.{false, map, sym, subst, arith, range_with_len, All-nil}
+use Rattle.workers.proofs.Names.{arrivals_at, Arrival}
 
 range-below : (from n bound : ℕ) → from + n ≤ bound
     → All (λ (x : ℕ). x < bound) (range_with_len from n)

@@ -1,36 +1,24 @@
 -- A run from its start to the time when its threads are back, and on to its end.
-use Rattle.std.proofs.Common.{◌≡◌, ℕ, ◌≤◌, List, [], Some, true, length, map}
-use Rattle.std.proofs.Common.{sym, ap, ◌∙◌, subst, arith}
-use Rattle.std.specs.List.{range_with_len}
-use Rattle.std.proofs.lemmas.List.{length-map}
-use Rattle.history.specs.Lists.{arrivals_at}
-use Rattle.history.specs.declared.arrival.Arrival.{Arrival}
 use Rattle.plan_reader.specs.declared.limits.TheConstants.{MAX_PLAN_FILTERS}
-use Rattle.plan_reader.specs.declared.plan.Plan.{Plan}
-use Rattle.hop_rule.specs.declared.sizes.BoardSizes.{BoardSizes}
-use Rattle.steer_model.specs.Good.Inputs.{Input, setup_in}
-use Rattle.steer_model.specs.State.Ranges.{AreOfFlows}
-use Rattle.steer_model.specs.State.Setup.{Setup}
+use Rattle.steer_model.specs.Good.Inputs.{setup_in}
 use Rattle.steer_model.specs.State.Start.{setup_of}
 use Rattle.run_words.specs.Numbers.{word_count}
 use Rattle.rss_table.specs.Redirection.{Redirection}
-use Rattle.workers.specs.Wires.{ArePushed}
 use Rattle.run_crew.specs.Routes.{Ends}
-use Rattle.run_words.specs.declared.seats.Seats.{Seats}
-use Rattle.workers.specs.BoardLaws.{BoardsHaveSettings, HasItsSettings}
-use Rattle.run_controller.specs.Stages.{stage}
+use Rattle.workers.specs.BoardLaws.{HasItsSettings}
 use Rattle.run_workers.specs.Stages.{stage_view}
 use Rattle.run_crew.specs.CountLaws.{IsFull}
 use Rattle.run_crew.specs.Crews.{AreWorking}
 use Rattle.run_crew.specs.Finished.{FinishedCrewsAreFull, finished_by_all}
-use Rattle.run_crew.specs.Sweeps.{CrewsGoOn, CrewsLearnArrivals, CrewsPlayOn, GoOn}
-use Rattle.run_crew.specs.Sweeps.{PlayOn, all_free}
-use Rattle.run_crew.specs.declared.seated.Seated.{Seated}
-use Rattle.workers.specs.Starts.{IsStart, boards_in}
-use Rattle.workers.specs.declared.start.Run.{Run}
-use Rattle.workers.specs.Overs.{AreAtHome, ArePaired, ControllerIsOver, IsBack, IsOver}
-use Rattle.workers.specs.Overs.{WireIsOver, stage_of}
+use Rattle.run_crew.specs.Sweeps.{CrewsGoOn, CrewsLearnArrivals, CrewsPlayOn, PlayOn}
+use Rattle.workers.specs.Starts.{boards_in}
+use Rattle.workers.specs.Overs.{AreAtHome, ArePaired, ControllerIsOver, IsBack, WireIsOver}
 use Rattle.workers.specs.Threads.{ControllerCan, ControllerRan, WireCan, WireRan}
+use Rattle.workers.proofs.Names.{◌≡◌, ℕ, ◌≤◌, List, [], Some, true, length, map, sym, ap, ◌∙◌}
+use Rattle.workers.proofs.Names.{subst, arith, range_with_len, length-map, arrivals_at, Arrival}
+use Rattle.workers.proofs.Names.{Plan, BoardSizes, Input, AreOfFlows, Setup, ArePushed, Seats}
+use Rattle.workers.proofs.Names.{BoardsHaveSettings, stage, GoOn, all_free, Seated, IsStart, Run}
+use Rattle.workers.proofs.Names.{IsOver, stage_of}
 
 -- ---- what is played on
 

@@ -1,50 +1,37 @@
 -- Why workers with the first actors of a plan, at the first seats of its boards, begin as a worker
 -- of a run has to.
-use Rattle.std.proofs.Common.{◌≡◌, ℕ, zero, suc, ◌+◌, ◌*◌, ◌-◌, ◌%◌, ◌<◌, max, false, true, List}
-use Rattle.std.proofs.Common.{[], ◌∷◌, Option, Some, length, map, sym, ap, ◌∙◌, arith, slice_get}
-use Rattle.std.proofs.Common.{slice_index_or}
-use Rattle.std.proofs.lemmas.List.{length-map}
-use Rattle.std.proofs.lemmas.Option.{slice_get-get_or, slice_get_within}
+use Rattle.std.proofs.Common.{max}
 use native.Mathlib.Nat as nat
-use Rattle.steer_base.specs.Counters.{rounded_up}
-use Rattle.steer_base.specs.Journals.{Journal}
 use Rattle.steer_base.specs.declared.choice.Chosen.{Chosen}
-use Rattle.steer_base.specs.declared.packet.Packet.{Packet}
 use Rattle.dev_flow_table.specs.Tables.{cleared}
 use Rattle.history.specs.declared.sent.Sent.{Sent}
 use Rattle.history.specs.declared.sock_write.SockWrite.{SockWrite}
-use Rattle.hop_rule.proofs.Lists.{none-some, some-is}
-use Rattle.hop_rule.specs.declared.sizes.BoardSizes.{BoardSizes}
 use Rattle.board_api.specs.Calls.Rights.{Pulls}
-use Rattle.workers.specs.RoundRobin.{AreDealt}
-use Rattle.plan_reader.specs.declared.plan.Plan.{Plan}
-use Rattle.plan_reader.specs.declared.plan.QueuePlan.{QueuePlan}
 use Rattle.steer_model.proofs.Capture.FlowLemmas.{below_count}
 use Rattle.steer_model.specs.Capture.FlowCounts.{flow_count}
 use Rattle.run_words.specs.Codes.{ReadBack}
 use Rattle.run_words.specs.Values.{flows_in, flows_word}
 use Rattle.run_coupling.proofs.Tries.RangeLemmas.{fit_first}
 use Rattle.run_workers.specs.Hands.Servers.{HasFlowsBelow}
-use Rattle.run_workers.specs.declared.drain.Drain.{Drain}
 use Rattle.run_workers.specs.declared.drain.Exit.{Exit}
 use Rattle.run_workers.specs.declared.drain.Exit.TheVariants.{Inboxes, Port}
-use Rattle.run_workers.specs.Actors.{Each, actor_at}
 use Rattle.run_workers.specs.Laws.{IsNew, IsNewDrain, IsNewPoller, IsNewServer, WorkersBegin}
 use Rattle.run_workers.specs.Stages.{HasSizes, StageView, stage_view}
-use Rattle.workers.specs.Boards.{AreBoardsOf, AreSeatsOf}
-use Rattle.workers.specs.BoardLaws.{BoardsHaveSettings}
-use Rattle.workers.specs.declared.boards.AllSeats.{AllSeats}
-use Rattle.workers.specs.declared.boards.RunBoards.{RunBoards}
-use Rattle.run_crew.specs.Crews.{AreWorking, drains_of, pollers_of, servers_of, ships_of}
-use Rattle.run_crew.specs.declared.seated.Seated.{Seated}
-use Rattle.run_words.specs.declared.seats.Seats.{Seats}
-use Rattle.workers.specs.Actors.{AreFirst, ArePaired, IsFirstDrain, RingEnd, first_count}
+use Rattle.workers.specs.Boards.{AreBoardsOf}
+use Rattle.run_crew.specs.Crews.{AreWorking}
+use Rattle.workers.specs.Actors.{AreFirst, IsFirstDrain, first_count}
 use Rattle.workers.specs.Crews.{IsCrewOf}
 use Rattle.workers.specs.StartLaws.{CrewsBegin}
-use Rattle.workers.specs.Seats.{AreSeated, first_seats}
 use Rattle.workers.specs.Starts.{HaveRings, IsFirstCrew}
 use Rattle.workers.specs.declared.actors.Actors.{Actors}
-use Rattle.workers.specs.declared.seats.RunSeats.{RunSeats}
+use Rattle.workers.proofs.Names.{◌≡◌, ℕ, zero, suc, ◌+◌, ◌*◌, ◌-◌, ◌%◌, ◌<◌, false, true, List, []}
+use Rattle.workers.proofs.Names.{◌∷◌, Option, Some, length, map, sym, ap, ◌∙◌, arith, slice_get}
+use Rattle.workers.proofs.Names.{slice_index_or, length-map, slice_get-get_or, slice_get_within}
+use Rattle.workers.proofs.Names.{rounded_up, Journal, Packet, none-some, some-is, BoardSizes}
+use Rattle.workers.proofs.Names.{AreDealt, Plan, QueuePlan, Drain, Each, actor_at, AreSeatsOf}
+use Rattle.workers.proofs.Names.{BoardsHaveSettings, AllSeats, RunBoards, drains_of, pollers_of}
+use Rattle.workers.proofs.Names.{servers_of, ships_of, Seated, Seats, ArePaired, RingEnd, AreSeated}
+use Rattle.workers.proofs.Names.{first_seats, RunSeats}
 use Rattle.workers.proofs.DealtLemmas.{are_played, dealt_at, played_is}
 use Rattle.workers.proofs.DrainLemmas.{drain_is}
 use Rattle.workers.proofs.FirstSeatLemmas.{workers_seats}

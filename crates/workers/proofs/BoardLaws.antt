@@ -1,16 +1,10 @@
 -- The boards that a plan begins with have its settings.
-use Rattle.std.proofs.Common.{◌≡◌, ℕ, zero, suc, ◌+◌, ◌*◌, ◌^◌, ◌<◌, List, [], ◌∷◌, Option}
-use Rattle.std.proofs.Common.{length, map, sym, refl, ap, ◌∙◌, arith, ◌++◌}
-use Rattle.std.specs.Prelude.{slice_get, slice_index, slice_index_or, unwrap_or}
+use Rattle.std.proofs.Common.{◌^◌}
+use Rattle.std.specs.Prelude.{slice_get, slice_index_or, unwrap_or}
 use Rattle.std.specs.Option.{option_map}
-use Rattle.std.proofs.lemmas.List.{length-append, length-map}
-use Rattle.steer_base.specs.Counters.{rounded_up}
 use Rattle.steer_base.specs.Sets.{first_cpus}
-use Rattle.plan_reader.specs.declared.plan.Plan.{Plan}
-use Rattle.plan_reader.specs.declared.plan.QueuePlan.{QueuePlan}
 use Rattle.plan_reader.specs.declared.plan.TxPlan.{TxPlan}
 use Rattle.xps_map.specs.Maps.{no_cpus}
-use Rattle.steer_model.specs.Good.Inputs.{Input}
 use Rattle.steer_model.specs.State.Start.{initial_settings}
 use Rattle.run_words.specs.First.{FirstValuesStand, first_receive_settings, first_transmit_settings}
 use Rattle.run_words.specs.Numbers.{word_count}
@@ -18,7 +12,10 @@ use Rattle.run_words.specs.declared.setting.ReceiveSetting.TheVariants as receiv
 use Rattle.run_words.specs.declared.setting.TransmitSetting.TheVariants as transmit
 use Rattle.run_coupling.specs.Coupling.Inputs.{AreReceiveWords, AreTransmitWords, receive_queues}
 use Rattle.run_coupling.proofs.Tries.RangeLemmas.{fit_first}
-use Rattle.workers.specs.BoardLaws.{PlansFitBoards, BoardsHaveSettings}
+use Rattle.workers.specs.BoardLaws.{PlansFitBoards}
+use Rattle.workers.proofs.Names.{◌≡◌, ℕ, zero, suc, ◌+◌, ◌*◌, ◌<◌, List, [], ◌∷◌, Option, length}
+use Rattle.workers.proofs.Names.{map, sym, refl, ap, ◌∙◌, arith, ◌++◌, slice_index, length-append}
+use Rattle.workers.proofs.Names.{length-map, rounded_up, Plan, QueuePlan, Input, BoardsHaveSettings}
 
 -- ---- values of lists
 

@@ -1,8 +1,8 @@
 -- Lists that threads wrote item by item.
-use Rattle.std.proofs.Common.{◌≡◌, ℕ, zero, suc, ◌<◌, List, [], ◌∷◌, ◌++◌, Some, length}
-use Rattle.std.proofs.Common.{take, drop, sym, ap, arith}
 use Rattle.std.specs.Prelude.{slice_get, slice_index_or}
 use Rattle.run_crew.proofs.ChoiceFunctions.{none-some, some-is}
+use Rattle.workers.proofs.Names.{◌≡◌, ℕ, zero, suc, ◌<◌, List, [], ◌∷◌, ◌++◌, Some, length, take}
+use Rattle.workers.proofs.Names.{drop, sym, ap, arith}
 
 pub at-place : {A : Type 0} (xs : List A) (k : ℕ) (x : A) → k < length xs
     → x ≡ slice_index_or xs k x → slice_get xs k ≡ Some x

@@ -1,7 +1,6 @@
 -- What the threads share may be lent to each of them, and a worker with its seats may go to one.
-use denote.Param.Send.{AllSync, IsSend, IsSync, recorded_sync, sendable, struct_sync}
+use denote.Param.Send.{AllSync, IsSend, IsSync, recorded_sync, struct_sync}
 use denote.Struct.Declared.{fields, shape}
-use Rattle.std.proofs.Crossing.{crosses}
 use Rattle.steer_base.specs.contracts.journal.Journal.{the_row as journal_row}
 use Rattle.steer_base.proofs.journal.Journal.TheSendSync as journal
 use Rattle.history.specs.contracts.arrival.Arrival.{the_row as arrival_row}
@@ -18,6 +17,7 @@ use Rattle.hint_words.proofs.hints.Hints.TheSendSync as hints
 use Rattle.run_workers.specs.contracts.tally.Counter as counter
 use Rattle.run_workers.specs.contracts.tally.Tally.{the_row as tally_row}
 use Rattle.workers.specs.contracts.posts.Post as post
+use Rattle.workers.proofs.Names.{sendable, crosses}
 
 late_sync : IsSync (journal_row arrival_row)
 late_sync = search (sendable, journal.the_sync, arrival.the_sync) depth 60

@@ -1,13 +1,13 @@
 -- The next item of all goes behind the last of its hand.
-use Rattle.std.proofs.Common.{◌≡◌, inl, inr, ℕ, suc, ◌+◌, ◌-◌, ◌/◌, ◌%◌, ◌<◌, ◌≤◌, ◌⊎◌}
-use Rattle.std.proofs.Common.{true, false, nat_lt, List, [], ◌∷◌, ◌++◌, Some, None}
-use Rattle.std.proofs.Common.{length, map, sym, ap, ◌∙◌, subst, arith, slice_index_or, slice_set}
+use Rattle.std.proofs.Common.{nat_lt}
 use Rattle.std.specs.List.{slice_get}
-use Rattle.std.proofs.lemmas.List.{length-map}
 use Rattle.std.proofs.lemmas.Option.{slice_get_cases}
-use Rattle.std.proofs.lemmas.Bool.{cases_Bool, cases_eq, ltb-false, ltb-true}
+use Rattle.std.proofs.lemmas.Bool.{cases_Bool, ltb-false, ltb-true}
 use native.Mathlib.Nat as nat
-use Rattle.workers.specs.RoundRobin.{AreDealt, hand_at}
+use Rattle.workers.proofs.Names.{◌≡◌, inl, inr, ℕ, suc, ◌+◌, ◌-◌, ◌/◌, ◌%◌, ◌<◌, ◌≤◌, ◌⊎◌, true}
+use Rattle.workers.proofs.Names.{false, List, [], ◌∷◌, ◌++◌, Some, None, length, map, sym, ap, ◌∙◌}
+use Rattle.workers.proofs.Names.{subst, arith, slice_index_or, slice_set, length-map, cases_eq}
+use Rattle.workers.proofs.Names.{AreDealt, hand_at}
 use Rattle.workers.proofs.DealtListLemmas.{get-beyond, get-end, get-other, hand-of}
 use Rattle.workers.proofs.DealtListLemmas.{hand-other, hand-set, map-set, not-below, size-by-end}
 use Rattle.workers.proofs.DealtListLemmas.{size-by-none, size-set}

@@ -1,13 +1,9 @@
 -- Actors that were dealt out to workers, by their numbers.
-use Rattle.std.proofs.Common.{◌≡◌, ℕ, zero, suc, ◌+◌, ◌*◌, ◌/◌, ◌%◌, ◌<◌, List, [], ◌∷◌, Some}
-use Rattle.std.proofs.Common.{length, map, sym, ap, ◌∙◌, arith, slice_get}
-use Rattle.std.proofs.lemmas.List.{length-map}
 use native.Mathlib.Nat as nat
-use Rattle.hop_rule.proofs.Lists.{none-some, some-is}
-use Rattle.workers.specs.RoundRobin.{AreDealt, hand_at}
 use Rattle.run_workers.proofs.EachLemmas.{item_at}
-use Rattle.run_crew.specs.Crews.{IsPlayed}
-use Rattle.run_crew.specs.declared.seated.Seated.{Seated}
+use Rattle.workers.proofs.Names.{◌≡◌, ℕ, zero, suc, ◌+◌, ◌*◌, ◌/◌, ◌%◌, ◌<◌, List, [], ◌∷◌, Some}
+use Rattle.workers.proofs.Names.{length, map, sym, ap, ◌∙◌, arith, slice_get, length-map, none-some}
+use Rattle.workers.proofs.Names.{some-is, AreDealt, hand_at, IsPlayed, Seated}
 
 module _ {A : Type 0} (kind : Seated → List A) where
   hand-of : (crew : List Seated) (w : ℕ) (by : Seated) → slice_get crew w ≡ Some by

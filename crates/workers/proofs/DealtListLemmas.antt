@@ -1,10 +1,9 @@
 -- Items of lists by their index, and one hand of several replaced.
-use Rattle.std.proofs.Common.{◌≡◌, ◌≢◌, ℕ, zero, suc, ◌*◌, ◌/◌, ◌%◌, ◌<◌, ◌≤◌}
-use Rattle.std.proofs.Common.{List, [], ◌∷◌, ◌++◌, Option, Some, None, length, map, take, drop}
-use Rattle.std.proofs.Common.{sym, refl, ap, arith, slice_index_or, slice_set}
 use Rattle.std.specs.List.{slice_get}
 use native.Mathlib.Nat as nat
-use Rattle.workers.specs.RoundRobin.{hand_at}
+use Rattle.workers.proofs.Names.{◌≡◌, ◌≢◌, ℕ, zero, suc, ◌*◌, ◌/◌, ◌%◌, ◌<◌, ◌≤◌, List, [], ◌∷◌}
+use Rattle.workers.proofs.Names.{◌++◌, Option, Some, None, length, map, take, drop, sym, refl, ap}
+use Rattle.workers.proofs.Names.{arith, slice_index_or, slice_set, hand_at}
 
 module _ {A : Type 0} where
   pub none-some : {x : A} → None ≡ Some x → ⊥

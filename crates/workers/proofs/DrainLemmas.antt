@@ -1,16 +1,11 @@
 -- What empties a lane, as it was made.
-use Rattle.std.proofs.Common.{◌≡◌, ℕ, zero, suc, ◌+◌, List, [], Option}
-use Rattle.std.proofs.Common.{None, Some, map, refl, sym, ap, ◌∙◌, arith, slice_get}
-use Rattle.std.specs.List.{range_with_len}
-use Rattle.std.proofs.lemmas.List.Elements.{All-nil}
-use Rattle.hop_rule.proofs.Lists.{none-some, some-is}
 use Rattle.hop_rule.specs.Lanes.{idle}
-use Rattle.steer_model.specs.State.Setup.{Setup}
 use Rattle.run_workers.specs.Hands.Drains.{IsDrain, hand_phase}
-use Rattle.run_workers.specs.declared.drain.Drain.{Drain}
 use Rattle.run_workers.specs.declared.drain.Exit.{Exit}
-use Rattle.run_workers.specs.Actors.{Each}
 use Rattle.workers.specs.Actors.{IsFirstDrain}
+use Rattle.workers.proofs.Names.{◌≡◌, ℕ, zero, suc, ◌+◌, List, [], Option, None, Some, map, refl}
+use Rattle.workers.proofs.Names.{sym, ap, ◌∙◌, arith, slice_get, range_with_len, All-nil, none-some}
+use Rattle.workers.proofs.Names.{some-is, Setup, Drain, Each}
 
 -- what empties a lane to this exit and counts from this number, as it was made
 abbrev pub first_drain : Exit → (initial lane : ℕ) → Drain

@@ -1,7 +1,6 @@
 -- Lists whose items are so at their indices.
-use Rattle.std.proofs.Common.{◌≡◌, ℕ, zero, suc, List, [], ◌∷◌, ◌++◌, length, refl, sym, subst}
-use Rattle.hop_rule.proofs.Lists.{none-some, some-is}
-use Rattle.run_workers.specs.Actors.{Each}
+use Rattle.workers.proofs.Names.{◌≡◌, ℕ, zero, suc, List, [], ◌∷◌, ◌++◌, length, refl, sym, subst}
+use Rattle.workers.proofs.Names.{none-some, some-is, Each}
 
 module _ {A : Type 0} where
   pub each_none : (Is : ℕ → A → Type 0) → Each Is []

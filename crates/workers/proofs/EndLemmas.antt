@@ -1,37 +1,23 @@
 -- All that is known at the end of a run, from its threads, its closings and the laws of both.
-use Rattle.std.proofs.Common.{◌≡◌, ◌⊎◌, inl, inr, ℕ, zero, suc, ◌+◌, ◌-◌, ◌/◌, ◌%◌, ◌<◌, ◌≤◌, List}
-use Rattle.std.proofs.Common.{[], ◌∷◌, ◌++◌, All, Some, length, map, sym, refl, ap, ◌∙◌, subst}
-use Rattle.std.proofs.Common.{arith}
-use Rattle.std.specs.List.{Contains, range_with_len}
-use Rattle.std.specs.Prelude.{slice_get, slice_index}
-use Rattle.std.proofs.lemmas.Bool.{cases_lt}
-use Rattle.std.proofs.lemmas.List.{length-map}
+use Rattle.std.specs.Prelude.{slice_get}
 use Rattle.std.proofs.lemmas.List.FromFn.{length-range_with_len}
 use Rattle.std.proofs.lemmas.List.Elements.{Contains-append_cases, Contains-append_left}
 use Rattle.std.proofs.lemmas.List.Elements.{Contains-append_right}
-use Rattle.rtrb.specs.Ring.{received}
-use Rattle.linearization.specs.Seats.{SeatView}
 use Rattle.steer_base.specs.Orders.{IsPrefix}
 use Rattle.steer_base.specs.declared.choice.Chosen.{Chosen}
-use Rattle.hint_words.specs.declared.step.HintStep.{HintStep}
-use Rattle.history.specs.Lists.{arrivals_at, list_at}
-use Rattle.history.specs.declared.arrival.Arrival.{Arrival}
+use Rattle.history.specs.Lists.{list_at}
 use Rattle.history.specs.declared.commanded.Commanded.{Commanded}
 use Rattle.history.specs.declared.history.History.{History}
 use Rattle.plan_reader.specs.Ranges.{commands_of}
 use Rattle.hop_rule.specs.Owns.{puts_of}
 use Rattle.hop_rule.specs.Sizes.{closer}
-use Rattle.hop_rule.specs.declared.sizes.BoardSizes.{BoardSizes}
 use Rattle.hop_rule.specs.declared.step.BoardStep.{BoardStep}
 use Rattle.board_api.specs.Closings.Closings.{own_in}
-use Rattle.board_api.specs.Seats.{BoardSeatView}
 use Rattle.board_api.specs.declared.lists.BoardLists.{BoardLists}
 use Rattle.steer_model.specs.Good.Commands.{AreGiven}
-use Rattle.steer_model.specs.Good.Inputs.{Input, setup_in}
+use Rattle.steer_model.specs.Good.Inputs.{setup_in}
 use Rattle.run_coupling.specs.Laws.SharedCodes.{SharedCodesExist}
 use Rattle.run_coupling.specs.Coupling.Boards.{IsReceiveBoard, IsTransmitBoard}
-use Rattle.run_workers.specs.declared.poller.Poller.{Poller}
-use Rattle.run_workers.specs.declared.server.Server.{Server}
 use Rattle.run_crew.specs.ArrivalLaws.{WireKeepsCoupling}
 use Rattle.run_crew.specs.Routes.{Ends}
 use Rattle.workers.specs.Boards.{receive_sizes, transmit_sizes}
@@ -39,9 +25,7 @@ use Rattle.workers.specs.BoardLaws.{PlansFitBoards}
 use Rattle.run_controller.specs.Journals.{Attempted}
 use Rattle.run_controller.specs.Laws.{AreBoards, ControllerKeepsCoupling}
 use Rattle.run_controller.specs.Settings.{first_known}
-use Rattle.run_controller.specs.Stages.{stage}
-use Rattle.run_workers.specs.Actors.{KeepsPoller, actor_at}
-use Rattle.run_crew.specs.Crews.{IsPlayed, drains_of, pollers_of, servers_of, ships_of}
+use Rattle.run_workers.specs.Actors.{KeepsPoller}
 use Rattle.run_crew.specs.DrainLaws.{AreDrained}
 use Rattle.run_crew.specs.QueueLaws.{CrewsHaveTurns, ReceiveEnds}
 use Rattle.run_crew.specs.ReplyLaws.{HasJournals, TransmitEnds}
@@ -49,14 +33,18 @@ use Rattle.run_crew.specs.RunLaws.{HintsEnd, IsCopied, RunEnds}
 use Rattle.run_crew.specs.Executions.{AreTurnsOf, SeatTurns}
 use Rattle.run_crew.specs.ThreadLaws.{ArrivalsAreWithin, ControllersTouchNoLane}
 use Rattle.run_crew.specs.ThreadLaws.{FrontsAreChosen, TouchesNoLane}
-use Rattle.run_crew.specs.declared.seated.Seated.{Seated}
-use Rattle.workers.specs.declared.start.Run.{Run}
 use Rattle.workers.specs.EndLaws.{LeftListsMakeHistories, OneListIsLeft}
-use Rattle.workers.specs.Left.{IsLeft, all_played, hint_seats, history_of, rx_seats, tx_seats}
-use Rattle.workers.specs.Overs.{IsOver, stage_of}
+use Rattle.workers.specs.Left.{IsLeft, hint_seats, history_of, rx_seats, tx_seats}
 use Rattle.workers.specs.declared.closing.Left.{Left}
 use Rattle.run_crew.proofs.ChoiceFunctions.{item-at, none-some, some-is}
 use Rattle.run_crew.proofs.ExecutionLemmas.{actor-back}
+use Rattle.workers.proofs.Names.{◌≡◌, ◌⊎◌, inl, inr, ℕ, zero, suc, ◌+◌, ◌-◌, ◌/◌, ◌%◌, ◌<◌, ◌≤◌}
+use Rattle.workers.proofs.Names.{List, [], ◌∷◌, ◌++◌, All, Some, length, map, sym, refl, ap, ◌∙◌}
+use Rattle.workers.proofs.Names.{subst, arith, Contains, range_with_len, slice_index, cases_lt}
+use Rattle.workers.proofs.Names.{length-map, received, SeatView, HintStep, arrivals_at, Arrival}
+use Rattle.workers.proofs.Names.{BoardSizes, BoardSeatView, Input, Poller, Server, stage, actor_at}
+use Rattle.workers.proofs.Names.{IsPlayed, drains_of, pollers_of, servers_of, ships_of, Seated, Run}
+use Rattle.workers.proofs.Names.{all_played, IsOver, stage_of}
 use Rattle.workers.proofs.ArrivedLemmas.{arrived-below}
 use Rattle.workers.proofs.FlowLemmas.{one-hash}
 use Rattle.workers.proofs.FreeHandLemmas.{drain-hand, poller-hand, server-hand, ship-hand}

@@ -1,20 +1,13 @@
 -- The first pollers with their rings, and the first applications.
-use Rattle.std.proofs.Common.{◌≡◌, ℕ, zero, suc, ◌<◌, false, List, [], ◌∷◌, ◌++◌, None, Some}
-use Rattle.std.proofs.Common.{length, map, refl, sym, ap, ◌∙◌, arith, slice_get, slice_index_or}
-use Rattle.std.specs.Prelude.{slice_index}
-use Rattle.std.proofs.lemmas.List.{length-append}
-use Rattle.std.proofs.lemmas.Option.{slice_get_within}
-use Rattle.rtrb.specs.Ring.{IsPair, known_free, received, sent}
-use Rattle.steer_base.specs.Counters.{rounded_up}
-use Rattle.steer_base.specs.Journals.{journal}
+use Rattle.rtrb.specs.Ring.{known_free}
 use Rattle.dev_flow_table.specs.Tables.{cleared}
-use Rattle.hop_rule.proofs.Lists.{none-some, some-is}
-use Rattle.plan_reader.specs.declared.plan.Plan.{Plan}
-use Rattle.plan_reader.specs.declared.plan.QueuePlan.{QueuePlan}
 use Rattle.run_words.specs.Values.{flows_word}
 use Rattle.run_workers.specs.Hands.Pollers.{IsPoller}
-use Rattle.run_workers.specs.declared.poller.Poller.{Poller}
-use Rattle.workers.specs.Actors.{ArePaired, IsFirstPoller, RingEnd}
+use Rattle.workers.proofs.Names.{◌≡◌, ℕ, zero, suc, ◌<◌, false, List, [], ◌∷◌, ◌++◌, None, Some}
+use Rattle.workers.proofs.Names.{length, map, refl, sym, ap, ◌∙◌, arith, slice_get, slice_index_or}
+use Rattle.workers.proofs.Names.{slice_index, length-append, slice_get_within, IsPair, received}
+use Rattle.workers.proofs.Names.{sent, rounded_up, journal, none-some, some-is, Plan, QueuePlan}
+use Rattle.workers.proofs.Names.{Poller, ArePaired, IsFirstPoller, RingEnd}
 use Rattle.workers.proofs.EachLemmas.{each_end, each_none}
 
 -- ---- rings

@@ -1,19 +1,12 @@
 -- The first seats of a run, by their numbers.
-use Rattle.std.proofs.Common.{◌≡◌, ℕ, zero, suc, ◌+◌, false, List, [], ◌∷◌, ◌++◌, Some, length}
-use Rattle.std.proofs.Common.{map, sym, ap, ◌∙◌, arith, slice_get}
 use Rattle.atomic_table.specs.Seated.{TableId}
-use Rattle.linearization.specs.Seats.{SeatView, new_seats, seat_view}
-use Rattle.hop_rule.proofs.Lists.{none-some, some-is}
-use Rattle.board_api.specs.Seats.{BoardSeatView}
+use Rattle.linearization.specs.Seats.{seat_view}
 use Rattle.hop_board.specs.Named.{board_seat}
-use Rattle.plan_reader.specs.declared.plan.Plan.{Plan}
-use Rattle.run_words.specs.declared.seats.Seats.{Seats}
-use Rattle.workers.specs.Boards.{AreSeatsOf}
-use Rattle.workers.specs.declared.boards.AllSeats.{AllSeats}
-use Rattle.workers.specs.declared.boards.RunBoards.{RunBoards}
-use Rattle.run_workers.specs.Actors.{Each}
-use Rattle.workers.specs.Seats.{AreSeated, first_hint_seat, first_seats}
-use Rattle.workers.specs.declared.seats.RunSeats.{RunSeats}
+use Rattle.workers.specs.Seats.{first_hint_seat}
+use Rattle.workers.proofs.Names.{◌≡◌, ℕ, zero, suc, ◌+◌, false, List, [], ◌∷◌, ◌++◌, Some, length}
+use Rattle.workers.proofs.Names.{map, sym, ap, ◌∙◌, arith, slice_get, SeatView, new_seats}
+use Rattle.workers.proofs.Names.{none-some, some-is, BoardSeatView, Plan, Seats, AreSeatsOf}
+use Rattle.workers.proofs.Names.{AllSeats, RunBoards, Each, AreSeated, first_seats, RunSeats}
 
 -- ---- lists
 

@@ -1,15 +1,13 @@
 -- All packets of a flow have one hash, by what a capture's packets are.
-use Rattle.std.proofs.Common.{◌≡◌, ◌≢◌, ◌⊎◌, inl, inr, ℕ, zero, suc, ◌<◌, List, [], ◌∷◌, Bool}
-use Rattle.std.proofs.Common.{Option, None, Some, length, sym, refl, ap, ◌∙◌, arith}
 use Rattle.std.specs.Option.{option_map}
 use Rattle.std.specs.Prelude.{if◌then◌else◌, unwrap_or}
-use Rattle.std.proofs.lemmas.Bool.{cases_eq, eq-eqb, ne_eqb}
-use Rattle.steer_base.specs.declared.packet.Packet.{Packet}
+use Rattle.std.proofs.lemmas.Bool.{eq-eqb, ne_eqb}
 use Rattle.history.specs.Finding.{found}
 use Rattle.history.specs.Lists.{packet_at}
-use Rattle.steer_model.specs.Good.Inputs.{Input}
-use Rattle.steer_model.specs.State.Ranges.{AreOfFlows}
 use Rattle.run_coupling.specs.Coupling.Inputs.{FlowsHaveOneHash}
+use Rattle.workers.proofs.Names.{◌≡◌, ◌≢◌, ◌⊎◌, inl, inr, ℕ, zero, suc, ◌<◌, List, [], ◌∷◌, Bool}
+use Rattle.workers.proofs.Names.{Option, None, Some, length, sym, refl, ap, ◌∙◌, arith, cases_eq}
+use Rattle.workers.proofs.Names.{Packet, Input, AreOfFlows}
 
 abbrev flow : Packet → ℕ
 flow packet = packet.flow_number

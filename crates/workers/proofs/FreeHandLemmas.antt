@@ -1,17 +1,13 @@
 -- If no worker has a packet in hand, no actor has.
-use Rattle.std.proofs.Common.{◌≡◌, ℕ, zero, suc, List, [], ◌∷◌, Bool, true, false, Option, None}
-use Rattle.std.proofs.Common.{Some, refl, ap, ◌∙◌}
 use Rattle.std.specs.List.{list_all}
 use Rattle.std.specs.Option.{is_none}
 use Rattle.std.specs.Prelude.{◌&&◌, slice_get}
-use Rattle.run_workers.specs.declared.drain.Drain.{Drain}
-use Rattle.run_workers.specs.declared.poller.Poller.{Poller}
-use Rattle.run_workers.specs.declared.server.Server.{Server}
-use Rattle.run_workers.specs.Workers.{drains_are_free, is_free, pollers_are_free, servers_are_free}
+use Rattle.run_workers.specs.Workers.{drains_are_free, pollers_are_free, servers_are_free}
 use Rattle.run_workers.specs.declared.worker.Worker.{Worker}
-use Rattle.run_crew.specs.Sweeps.{all_free}
-use Rattle.run_crew.specs.declared.seated.Seated.{Seated}
 use Rattle.run_crew.proofs.ChoiceFunctions.{none-some, some-is}
+use Rattle.workers.proofs.Names.{◌≡◌, ℕ, zero, suc, List, [], ◌∷◌, Bool, true, false, Option, None}
+use Rattle.workers.proofs.Names.{Some, refl, ap, ◌∙◌, Drain, Poller, Server, is_free, all_free}
+use Rattle.workers.proofs.Names.{Seated}
 
 both-true : (b c : Bool) → (b && c) ≡ true → (b ≡ true) × (c ≡ true)
 both-true true c is = (refl, is)

@@ -1,16 +1,14 @@
 -- The own lists of the seats of a crew and of the last seat of a board.
-use Rattle.std.proofs.Common.{◌≡◌, ◌≢◌, ◌⊎◌, inl, inr, ℕ, zero, suc, ◌≤◌, List, [], ◌∷◌, ◌++◌}
-use Rattle.std.proofs.Common.{Bool, Some, length, map, sym, refl, ap, ◌∙◌, arith}
-use Rattle.std.specs.List.{Contains}
 use Rattle.std.specs.Prelude.{if◌then◌else◌, slice_get}
-use Rattle.std.proofs.lemmas.Bool.{cases_eq, eq-eqb, ne_eqb}
+use Rattle.std.proofs.lemmas.Bool.{eq-eqb, ne_eqb}
 use Rattle.std.proofs.lemmas.List.Elements.{Contains-append_left}
 use Rattle.std.proofs.lemmas.List.Elements.{Contains-push, Contains-push_cases}
 use Rattle.hop_rule.specs.Owns.{puts_of}
 use Rattle.board_api.specs.Closings.Closings.{own_in}
-use Rattle.board_api.specs.Seats.{BoardSeatView}
-use Rattle.run_crew.specs.declared.seated.Seated.{Seated}
 use Rattle.run_crew.proofs.ChoiceFunctions.{is-within, none-some, some-is}
+use Rattle.workers.proofs.Names.{◌≡◌, ◌≢◌, ◌⊎◌, inl, inr, ℕ, zero, suc, ◌≤◌, List, [], ◌∷◌, ◌++◌}
+use Rattle.workers.proofs.Names.{Bool, Some, length, map, sym, refl, ap, ◌∙◌, arith, Contains}
+use Rattle.workers.proofs.Names.{cases_eq, BoardSeatView, Seated}
 
 -- ---- own lists
 

@@ -1,3 +1,4 @@
+pub mod Names
 pub mod WireLemmas
 pub mod DealLemmas
 pub mod RoundRobinLemmas

@@ -1,19 +1,17 @@
 -- The actors of a kind that are played, by their numbers.
-use Rattle.std.proofs.Common.{◌≡◌, ℕ, zero, suc, ◌+◌, ◌*◌, ◌/◌, ◌%◌, ◌<◌, ◌≤◌, List, [], ◌∷◌}
-use Rattle.std.proofs.Common.{Global, Vec, Option, Some, None, filter_map, length, map, slice_get}
-use Rattle.std.proofs.Common.{slice_index_or, refl, sym, ap, subst, ◌∙◌, arith, ◌⊎◌, inl, inr}
-use Rattle.std.specs.List.{cons_option, range_with_len}
-use Rattle.std.proofs.lemmas.List.{length-map}
-use Rattle.std.proofs.lemmas.Bool.{cases_lt}
+use Rattle.std.proofs.Common.{Global, Vec, filter_map}
+use Rattle.std.specs.List.{cons_option}
 use Rattle.std.proofs.lemmas.Option.{slice_get_past}
 use native.Mathlib.Nat as nat
 use mathlib.Core.List.{map-map}
-use Rattle.workers.specs.RoundRobin.{AreDealt, dealt_item}
+use Rattle.workers.specs.RoundRobin.{dealt_item}
 use Rattle.run_crew.specs.CountLaws.{actor_of, played}
-use Rattle.run_crew.specs.Crews.{IsPlayed}
-use Rattle.run_crew.specs.declared.seated.Seated.{Seated}
-use Rattle.workers.specs.GatheredHands.{HaveAll, dealt_items}
-use Rattle.workers.specs.Left.{all_played}
+use Rattle.workers.specs.GatheredHands.{HaveAll}
+use Rattle.workers.proofs.Names.{◌≡◌, ℕ, zero, suc, ◌+◌, ◌*◌, ◌/◌, ◌%◌, ◌<◌, ◌≤◌, List, [], ◌∷◌}
+use Rattle.workers.proofs.Names.{Option, Some, None, length, map, slice_get, slice_index_or, refl}
+use Rattle.workers.proofs.Names.{sym, ap, subst, ◌∙◌, arith, ◌⊎◌, inl, inr, range_with_len}
+use Rattle.workers.proofs.Names.{length-map, cases_lt, AreDealt, IsPlayed, Seated, dealt_items}
+use Rattle.workers.proofs.Names.{all_played}
 
 -- ---- what a function gives of the numbers from a on, if it gives something of each
 

@@ -1,23 +1,16 @@
 -- The workers at their posts: how they went on there, and how they have stayed.
-use Rattle.std.proofs.Common.{◌≡◌, ◌⊎◌, inl, inr, ℕ, zero, suc, ◌+◌, ◌<◌, ◌≤◌, List, [], ◌∷◌}
-use Rattle.std.proofs.Common.{All, Some, true, refl, sym, ap, subst, ◌∙◌, length, map, arith}
 use Rattle.std.specs.Prelude.{slice_get, slice_index_or}
-use Rattle.std.specs.List.{Contains, fold, sum}
+use Rattle.std.specs.List.{fold, sum}
 use Rattle.std.proofs.lemmas.Bool.{and_from}
-use Rattle.std.proofs.lemmas.List.{length-map}
-use Rattle.std.proofs.lemmas.List.Elements.{All-cons, All-map, All-nil}
+use Rattle.std.proofs.lemmas.List.Elements.{All-cons, All-map}
 use Rattle.atomic_table.specs.Seated.{TableId}
-use Rattle.linearization.specs.Seats.{SeatView, new_seats, seat_view}
+use Rattle.linearization.specs.Seats.{seat_view}
 use Rattle.hint_words.specs.Loads.{LoadsAreStored}
-use Rattle.hint_words.specs.declared.step.HintStep.{HintStep}
-use Rattle.hop_rule.proofs.Lists.{none-some, some-is}
-use Rattle.run_words.specs.declared.seats.Seats.{Seats}
-use Rattle.run_workers.specs.Actors.{Each}
 use Rattle.run_workers.specs.Looks.{look_count}
 use Rattle.run_workers.specs.Stages.{StageView}
 use Rattle.run_workers.specs.Tally.{AreSeatsOf, HasFinished, IsCounter, IsTally, LoadedCountsHold}
 use Rattle.run_workers.specs.Tally.{SawFinished, StoreAtMostTheirs, StoresAtMost, finished_by}
-use Rattle.run_workers.specs.Workers.{GoesOn, is_free}
+use Rattle.run_workers.specs.Workers.{GoesOn}
 use Rattle.run_workers.specs.declared.tally.Counter.{Counter}
 use Rattle.run_workers.specs.declared.tally.Tally.{Tally}
 use Rattle.run_workers.specs.declared.work.Ended.{Ended}
@@ -25,13 +18,16 @@ use Rattle.run_workers.specs.declared.work.Ended.TheVariants as ended
 use Rattle.run_workers.specs.declared.work.TheConstants.{MAX_IDLE_TURNS}
 use Rattle.run_workers.proofs.TallyLemmas.{counts_rise}
 use Rattle.run_crew.specs.Finished.{finished_by_all}
-use Rattle.run_crew.specs.Sweeps.{AllWork, GoOn, all_free}
-use Rattle.run_crew.specs.declared.seated.Seated.{Seated}
+use Rattle.run_crew.specs.Sweeps.{AllWork}
 use Rattle.run_crew.proofs.ChoiceFunctions.{is-within, item-at}
 use Rattle.workers.specs.Posts.{AreFirstCounters, ArePosts, CanBeManned, HasSeenOrLooked}
 use Rattle.workers.specs.Posts.{HasWorked, HaveStayed, HaveWorked}
 use Rattle.workers.specs.declared.posts.Post.{Post}
 use Rattle.workers.specs.declared.posts.Posts.{Posts}
+use Rattle.workers.proofs.Names.{◌≡◌, ◌⊎◌, inl, inr, ℕ, zero, suc, ◌+◌, ◌<◌, ◌≤◌, List, [], ◌∷◌}
+use Rattle.workers.proofs.Names.{All, Some, true, refl, sym, ap, subst, ◌∙◌, length, map, arith}
+use Rattle.workers.proofs.Names.{Contains, length-map, All-nil, SeatView, new_seats, HintStep}
+use Rattle.workers.proofs.Names.{none-some, some-is, Seats, Each, is_free, GoOn, all_free, Seated}
 use Rattle.workers.proofs.CrewLemmas.{read-at}
 use Rattle.workers.proofs.EachLemmas.{each_none}
 

@@ -1,29 +1,20 @@
 -- The seats of a run that is over: they are all of its boards' and of its words', and they rest.
-use Rattle.std.proofs.Common.{◌≡◌, ℕ, zero, suc, ◌+◌, Bool, true, false, ◌&&◌, Some, List, [], ◌∷◌}
-use Rattle.std.proofs.Common.{All, length, map, slice_get, refl, sym, ap, ◌∙◌, subst, arith}
+use Rattle.std.proofs.Common.{◌&&◌}
 use Rattle.std.specs.List.{list_all}
-use Rattle.std.proofs.lemmas.List.{length-map}
 use Rattle.std.proofs.lemmas.List.Elements.{All-map}
-use Rattle.std.proofs.lemmas.Option.{slice_get-get_or}
-use Rattle.linearization.specs.Seats.{SeatView}
-use Rattle.steer_base.specs.Journals.{Journal, journal}
-use Rattle.hint_words.specs.declared.step.HintStep.{HintStep}
 use Rattle.hop_rule.specs.Boards.{lane_steps}
 use Rattle.hop_rule.specs.Lanes.{holding, out_holding, phase}
 use Rattle.board_api.specs.Closings.Closings.{IsAtRest}
-use Rattle.board_api.specs.Seats.{BoardSeatView}
 use Rattle.board_api.specs.Views.{BoardView}
-use Rattle.steer_model.specs.Good.Inputs.{Input}
-use Rattle.run_words.specs.declared.seats.Seats.{Seats}
 use Rattle.run_controller.specs.Stages.{IsSeated}
-use Rattle.run_workers.specs.Actors.{Each}
 use Rattle.run_workers.specs.Laws.{FreeWorkersRest}
-use Rattle.run_workers.specs.Workers.{is_free}
 use Rattle.run_crew.specs.ThreadLaws.{ControllersTouchNoLane, TouchesNoLane}
-use Rattle.run_crew.specs.declared.seated.Seated.{Seated}
-use Rattle.workers.specs.declared.start.Run.{Run}
 use Rattle.workers.specs.BoardEnds.{FillBoard, FillWords, IsLast}
-use Rattle.workers.specs.Overs.{IsOver, stage_of}
+use Rattle.workers.proofs.Names.{◌≡◌, ℕ, zero, suc, ◌+◌, Bool, true, false, Some, List, [], ◌∷◌}
+use Rattle.workers.proofs.Names.{All, length, map, slice_get, refl, sym, ap, ◌∙◌, subst, arith}
+use Rattle.workers.proofs.Names.{length-map, slice_get-get_or, SeatView, Journal, journal, HintStep}
+use Rattle.workers.proofs.Names.{BoardSeatView, Input, Seats, Each, is_free, Seated, Run, IsOver}
+use Rattle.workers.proofs.Names.{stage_of}
 
 -- ---- lists
 

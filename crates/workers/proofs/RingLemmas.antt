@@ -1,15 +1,11 @@
 -- The rings of a run, one after the other.
-use Rattle.std.proofs.Common.{◌≡◌, ◌⊎◌, inl, inr, ℕ, zero, suc, ◌<◌, ◌≤◌, None, Some}
-use Rattle.std.proofs.Common.{List, [], ◌∷◌, ◌++◌, length, slice_get, slice_index_or, slice_set}
-use Rattle.std.proofs.Common.{refl, sym, ap, ◌∙◌, subst, arith}
-use Rattle.std.proofs.lemmas.List.{get_or_default, get_or-set_other, length-set, length_push}
-use Rattle.std.proofs.lemmas.Bool.{cases_lt}
-use Rattle.std.proofs.lemmas.Option.{slice_get_within}
-use Rattle.rtrb.specs.Ring.{IsPair, received, sent}
+use Rattle.std.proofs.lemmas.List.{get_or_default, get_or-set_other, length_push}
 use Rattle.workers.specs.Lists.{ArePairs, AreReceived}
+use Rattle.workers.proofs.Names.{◌≡◌, ◌⊎◌, inl, inr, ℕ, zero, suc, ◌<◌, ◌≤◌, None, Some, List, []}
+use Rattle.workers.proofs.Names.{◌∷◌, ◌++◌, length, slice_get, slice_index_or, slice_set, refl, sym}
+use Rattle.workers.proofs.Names.{ap, ◌∙◌, subst, arith, length-set, cases_lt, slice_get_within}
+use Rattle.workers.proofs.Names.{IsPair, received, sent, Poller, Wire}
 use Rattle.workers.proofs.TakenLemmas.{get-next}
-use Rattle.run_workers.specs.declared.poller.Poller.{Poller}
-use Rattle.workers.specs.declared.wire.Wire.{Wire}
 
 -- What the rings of the pollers in front were given is known, and the other rings are as they were.
 pub record AreSettled (before now : Wire) (front : List Poller) : Type 0 where

@@ -1,14 +1,14 @@
 -- The last item of all is the last of its hand.
-use Rattle.std.proofs.Common.{◌≡◌, inl, inr, ℕ, suc, ◌+◌, ◌-◌, ◌/◌, ◌%◌, ◌<◌, ◌≤◌, ◌⊎◌, true, false}
-use Rattle.std.proofs.Common.{nat_lt, List, [], ◌∷◌, ◌++◌, Some, None, length, map, take, drop}
-use Rattle.std.proofs.Common.{reverse, sym, refl, ap, ◌∙◌, subst, arith, slice_index_or, slice_set}
+use Rattle.std.proofs.Common.{nat_lt}
 use Rattle.std.specs.List.{slice_get}
 use Rattle.std.proofs.lemmas.Grind.{reverse_onto}
-use Rattle.std.proofs.lemmas.List.{length-map, length-set}
 use Rattle.std.proofs.lemmas.Option.{slice_get_cases}
-use Rattle.std.proofs.lemmas.Bool.{cases_Bool, cases_eq, ltb-false, ltb-true}
+use Rattle.std.proofs.lemmas.Bool.{cases_Bool, ltb-false, ltb-true}
 use native.Mathlib.Nat as nat
-use Rattle.workers.specs.RoundRobin.{AreDealt, hand_at}
+use Rattle.workers.proofs.Names.{◌≡◌, inl, inr, ℕ, suc, ◌+◌, ◌-◌, ◌/◌, ◌%◌, ◌<◌, ◌≤◌, ◌⊎◌, true}
+use Rattle.workers.proofs.Names.{false, List, [], ◌∷◌, ◌++◌, Some, None, length, map, take, drop}
+use Rattle.workers.proofs.Names.{reverse, sym, refl, ap, ◌∙◌, subst, arith, slice_index_or}
+use Rattle.workers.proofs.Names.{slice_set, length-map, length-set, cases_eq, AreDealt, hand_at}
 use Rattle.workers.proofs.DealtListLemmas.{drop-one, get-below, get-beyond, get-end, get-front}
 use Rattle.workers.proofs.DealtListLemmas.{get-not-last, get-past, hand-of, hand-other, hand-set}
 use Rattle.workers.proofs.DealtListLemmas.{map-set, not-below, size-by-end, size-set}

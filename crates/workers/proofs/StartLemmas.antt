@@ -1,35 +1,21 @@
 -- The wire and the controller at their seats, and all that a run begins with.
-use Rattle.std.proofs.Common.{◌≡◌, ℕ, ◌+◌, ◌*◌, ◌-◌, ◌<◌, List, [], Option, Some, length, refl}
-use Rattle.std.proofs.Common.{sym, ap, ◌∙◌, subst, arith, slice_get, slice_index_or}
-use Rattle.std.proofs.lemmas.List.{length-map}
-use Rattle.std.proofs.lemmas.Option.{slice_get-get_or}
-use Rattle.rtrb.specs.Ring.{known_free, sent}
-use Rattle.steer_base.specs.Journals.{Journal, journal}
-use Rattle.steer_base.specs.declared.packet.Packet.{Packet}
-use Rattle.history.specs.Lists.{arrivals_at}
-use Rattle.history.specs.declared.arrival.Arrival.{Arrival}
-use Rattle.hop_rule.specs.declared.sizes.BoardSizes.{BoardSizes}
+use Rattle.rtrb.specs.Ring.{known_free}
 use Rattle.plan_reader.specs.Ranges.{commands_of}
-use Rattle.plan_reader.specs.declared.plan.Plan.{Plan}
-use Rattle.plan_reader.specs.declared.plan.QueuePlan.{QueuePlan}
-use Rattle.workers.specs.Wires.{ArePushed}
-use Rattle.workers.specs.declared.wire.Wire.{Wire}
-use Rattle.workers.specs.Boards.{AreBoardsOf, AreSeatsOf}
-use Rattle.workers.specs.declared.boards.AllSeats.{AllSeats}
-use Rattle.workers.specs.declared.boards.RunBoards.{RunBoards}
+use Rattle.workers.specs.Boards.{AreBoardsOf}
 use Rattle.run_controller.specs.Settings.{first_known}
 use Rattle.run_controller.specs.Stages.{AreSeated as AreControllers, stage}
 use Rattle.run_controller.specs.declared.controller.Controller.{Controller}
-use Rattle.run_crew.specs.declared.seated.Seated.{Seated}
-use Rattle.workers.specs.Actors.{AreFirst, ArePaired, RingEnd}
+use Rattle.workers.specs.Actors.{AreFirst}
 use Rattle.workers.specs.Crews.{IsCrewOf}
 use Rattle.workers.specs.StartLaws.{CrewsBegin}
-use Rattle.workers.specs.Seats.{AreSeated, first_seats}
-use Rattle.workers.specs.Starts.{HaveRings, IsFirstController, IsFirstCrew, IsFirstWire}
-use Rattle.workers.specs.Starts.{IsStart, boards_in}
+use Rattle.workers.specs.Starts.{HaveRings, IsFirstController, IsFirstCrew, IsFirstWire, boards_in}
 use Rattle.workers.specs.declared.actors.Actors.{Actors}
-use Rattle.workers.specs.declared.seats.RunSeats.{RunSeats}
-use Rattle.workers.specs.declared.start.Run.{Run}
+use Rattle.workers.proofs.Names.{◌≡◌, ℕ, ◌+◌, ◌*◌, ◌-◌, ◌<◌, List, [], Option, Some, length, refl}
+use Rattle.workers.proofs.Names.{sym, ap, ◌∙◌, subst, arith, slice_get, slice_index_or, length-map}
+use Rattle.workers.proofs.Names.{slice_get-get_or, sent, Journal, journal, Packet, arrivals_at}
+use Rattle.workers.proofs.Names.{Arrival, BoardSizes, Plan, QueuePlan, ArePushed, Wire, AreSeatsOf}
+use Rattle.workers.proofs.Names.{AllSeats, RunBoards, Seated, ArePaired, RingEnd, AreSeated}
+use Rattle.workers.proofs.Names.{first_seats, IsStart, RunSeats, Run}
 use Rattle.workers.proofs.FirstSeatLemmas.{controller_seats, wire_seat}
 
 -- ---- the wire

@@ -1,8 +1,8 @@
 -- Items that are taken from the end of a reversed list, so that they come in their order.
-use Rattle.std.proofs.Common.{◌≡◌, ℕ, Some, List, [], ◌∷◌, ◌++◌, length, map, reverse}
-use Rattle.std.proofs.Common.{slice_get, refl, sym, ap, ◌∙◌}
 use Rattle.std.proofs.lemmas.List.{append_assoc, map-append, reverse-append}
-use Rattle.steer_base.specs.Journals.{Journal, grown, journal}
+use Rattle.steer_base.specs.Journals.{grown}
+use Rattle.workers.proofs.Names.{◌≡◌, ℕ, Some, List, [], ◌∷◌, ◌++◌, length, map, reverse, slice_get}
+use Rattle.workers.proofs.Names.{refl, sym, ap, ◌∙◌, Journal, journal}
 
 module _ {X : Type 0} where
   pub get-next : (front more : List X) (x : X)

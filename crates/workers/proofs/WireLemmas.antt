@@ -1,16 +1,14 @@
 -- What the wire has done after one arrival more.
-use Rattle.std.proofs.Common.{◌≡◌, ℕ, zero, suc, ◌+◌, ◌<◌, List, [], ◌∷◌, ◌++◌, length, map, refl}
-use Rattle.std.proofs.Common.{sym, ap, subst, ◌∙◌, arith, length-append}
-use Rattle.std.specs.List.{range_with_len}
-use Rattle.history.specs.declared.arrival.Arrival.{Arrival}
-use Rattle.steer_base.specs.Journals.{Journal}
+use Rattle.std.proofs.Common.{length-append}
 use Rattle.rss_table.specs.Redirection.{Redirection}
-use Rattle.steer_model.specs.State.Setup.{Setup, packet_hash}
+use Rattle.steer_model.specs.State.Setup.{packet_hash}
 use Rattle.run_words.specs.Lists.{oldest_first}
 use Rattle.workers.specs.Wires.{Arrives, KeepsRings}
 use Rattle.run_words.specs.HintViews.{HintView}
 use Rattle.run_crew.specs.Routes.{Leads, Routes}
-use Rattle.workers.specs.declared.wire.Wire.{Wire}
+use Rattle.workers.proofs.Names.{◌≡◌, ℕ, zero, suc, ◌+◌, ◌<◌, List, [], ◌∷◌, ◌++◌, length, map}
+use Rattle.workers.proofs.Names.{refl, sym, ap, subst, ◌∙◌, arith, range_with_len, Arrival, Journal}
+use Rattle.workers.proofs.Names.{Setup, Wire}
 
 -- ---- one arrival more
 

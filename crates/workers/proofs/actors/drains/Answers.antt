@@ -1,7 +1,8 @@
-use Rattle.std.proofs.Common.{rules, arith}
+use Rattle.std.proofs.Common.{rules}
 use Rattle.std.proofs.lemmas.Iterator.{YieldsList-from_map, YieldsList-from_range}
 use Rattle.std.proofs.lemmas.Iterator.{items_from_collect}
 use Rattle.std.proofs.lemmas.Result.{IfOk-at_ok}
+use Rattle.workers.proofs.Names.{arith}
 use Rattle.workers.proofs.DrainLemmas.{each_first, first_drain, is_first_drain}
 use Rattle.workers.proofs.actors.drains.Goals as goal
 

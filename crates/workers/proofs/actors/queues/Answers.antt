@@ -1,7 +1,5 @@
-use Rattle.std.proofs.Common.{◌∷◌, [], ap, sym, ◌∙◌, arith, length}
-use Rattle.std.proofs.lemmas.List.{length-append}
-use Rattle.rtrb.specs.Ring.{received}
-use Rattle.workers.specs.Actors.{IsFirstPoller}
+use Rattle.workers.proofs.Names.{◌∷◌, [], ap, sym, ◌∙◌, arith, length, length-append, received}
+use Rattle.workers.proofs.Names.{IsFirstPoller}
 use Rattle.workers.proofs.EachLemmas.{each_end, each_of_none}
 use Rattle.workers.proofs.FirstLemmas.{is_first_poller, paired_end, unpaired}
 use Rattle.workers.proofs.actors.queues.Goals as goal

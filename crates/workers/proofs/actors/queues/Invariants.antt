@@ -1,6 +1,4 @@
-use Rattle.std.proofs.Common.{◌≡◌, length}
-use Rattle.run_workers.specs.Actors.{Each}
-use Rattle.workers.specs.Actors.{ArePaired, IsFirstPoller}
+use Rattle.workers.proofs.Names.{◌≡◌, length, Each, ArePaired, IsFirstPoller}
 use Rattle.workers.proofs.actors.queues.Given as goal
 
 abbrev pub invariant-loop-queue : goal.invariant-loop-queue

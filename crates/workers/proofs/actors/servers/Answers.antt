@@ -1,7 +1,6 @@
-use Rattle.std.proofs.Common.{◌≡◌, ◌∷◌, [], Some, ap, refl, sym, ◌∙◌, arith, length, slice_get}
-use Rattle.std.proofs.lemmas.List.{length-append}
 use Rattle.std.proofs.lemmas.Option.{slice_get_read}
-use Rattle.workers.specs.Actors.{IsFirstServer}
+use Rattle.workers.proofs.Names.{◌≡◌, ◌∷◌, [], Some, ap, refl, sym, ◌∙◌, arith, length, slice_get}
+use Rattle.workers.proofs.Names.{length-append, IsFirstServer}
 use Rattle.workers.proofs.EachLemmas.{each_end, each_of_none}
 use Rattle.workers.proofs.actors.servers.Goals as goal
 

@@ -1,6 +1,4 @@
-use Rattle.std.proofs.Common.{◌≡◌, length}
-use Rattle.run_workers.specs.Actors.{Each}
-use Rattle.workers.specs.Actors.{IsFirstServer}
+use Rattle.workers.proofs.Names.{◌≡◌, length, Each, IsFirstServer}
 use Rattle.workers.proofs.actors.servers.Given as goal
 
 abbrev pub invariant-loop-app : goal.invariant-loop-app

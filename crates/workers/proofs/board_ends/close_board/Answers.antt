@@ -1,8 +1,7 @@
-use Rattle.std.proofs.Common.{◌≡◌, ap, ◌∙◌}
 use Rattle.std.proofs.lemmas.List.Elements.{All-push, All-same, All-weaker}
 use Rattle.board_api.specs.Closings.Closings.{IsAtRest}
-use Rattle.board_api.specs.Seats.{BoardSeatView}
 use Rattle.workers.specs.BoardEnds.{IsLast}
+use Rattle.workers.proofs.Names.{◌≡◌, ap, ◌∙◌, BoardSeatView}
 use Rattle.workers.proofs.board_ends.close_board.Goals as goal
 
 pub close_board-requires-clause-table : goal.close_board-requires-clause-table

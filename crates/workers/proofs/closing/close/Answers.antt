@@ -1,8 +1,6 @@
-use Rattle.std.proofs.Common.{ap, length, subst, sym, ◌∙◌}
-use Rattle.plan_reader.specs.declared.plan.Plan.{Plan}
-use Rattle.steer_model.specs.State.Setup.{Setup}
 use Rattle.run_crew.specs.RunLaws.{RunEnds}
 use Rattle.workers.specs.Left.{IsLeft, history_of}
+use Rattle.workers.proofs.Names.{ap, length, subst, sym, ◌∙◌, Plan, Setup}
 use Rattle.workers.proofs.closing.close.Goals as goal
 
 pub put_together-requires : goal.put_together-requires

@@ -1,11 +1,8 @@
-use Rattle.std.proofs.Common.{◌++◌, ◌∷◌, [], map, ap, ◌∙◌, subst}
-use Rattle.linearization.specs.Seats.{SeatView}
-use Rattle.steer_base.specs.Journals.{Journal}
 use Rattle.hint_words.specs.Closings.{HaveEnded}
-use Rattle.hint_words.specs.declared.step.HintStep.{HintStep}
 use Rattle.board_api.specs.Closings.Closings.{HasEnded}
-use Rattle.board_api.specs.Seats.{BoardSeatView}
 use Rattle.workers.specs.Lists.{AreReceived}
+use Rattle.workers.proofs.Names.{◌++◌, ◌∷◌, [], map, ap, ◌∙◌, subst, SeatView, Journal, HintStep}
+use Rattle.workers.proofs.Names.{BoardSeatView}
 use Rattle.workers.proofs.ActorLemmas.{have-pollers, have-servers, pollers-are, pollers-paired}
 use Rattle.workers.proofs.ActorLemmas.{pollers-room, servers-are, servers-room}
 use Rattle.workers.proofs.RestLemmas.{rx-fills, tx-fills, words-fill}

@@ -1,6 +1,5 @@
-use Rattle.std.proofs.Common.{subst}
 use Rattle.std.proofs.lemmas.Result.{IfOk-weaker}
-use Rattle.workers.specs.RoundRobin.{AreDealt}
+use Rattle.workers.proofs.Names.{subst, AreDealt}
 use Rattle.workers.proofs.crew.crew_of.Goals as goal
 
 pub returns : goal.returns

@@ -1,6 +1,5 @@
-use Rattle.std.proofs.Common.{◌≡◌, ◌++◌, map}
-use Rattle.std.specs.Vec.Iter.{into_iter_items}
-use Rattle.run_crew.specs.Crews.{drains_of, pollers_of, servers_of, ships_of}
+use Rattle.workers.proofs.Names.{◌≡◌, ◌++◌, map, into_iter_items, drains_of, pollers_of, servers_of}
+use Rattle.workers.proofs.Names.{ships_of}
 use Rattle.workers.proofs.crew.seated.Given as goal
 
 abbrev pub invariant-loop-seats : goal.invariant-loop-seats

@@ -1,14 +1,9 @@
-use Rattle.std.proofs.Common.{◌≡◌, true, [], length, map, subst, sym, ap, ◌∙◌}
 use Rattle.hint_words.specs.Loads.{LoadsAreStored}
-use Rattle.steer_base.specs.Journals.{journal}
-use Rattle.plan_reader.specs.declared.plan.Plan.{Plan}
-use Rattle.steer_model.specs.State.Ranges.{AreOfFlows}
-use Rattle.run_controller.specs.Stages.{stage}
 use Rattle.run_workers.specs.Tally.{AreSeatsOf}
-use Rattle.run_crew.specs.Sweeps.{GoOn, all_free}
 use Rattle.workers.specs.Posts.{ArePosts, CanBeManned, HaveStayed}
-use Rattle.workers.specs.Starts.{IsStart}
-use Rattle.workers.specs.Threads.{ControllerCan, ControllerRan, workers_stage}
+use Rattle.workers.specs.Threads.{ControllerCan, ControllerRan}
+use Rattle.workers.proofs.Names.{◌≡◌, true, [], length, map, subst, sym, ap, ◌∙◌, journal, Plan}
+use Rattle.workers.proofs.Names.{AreOfFlows, stage, GoOn, all_free, IsStart, workers_stage}
 use Rattle.workers.proofs.BackLemmas.{controller-can, first-work, is-back, packets-are, wire-can}
 use Rattle.workers.proofs.PostLemmas.{can-be-manned, have-stayed, posts-are-free, posts-go-on}
 use Rattle.workers.proofs.PostLemmas.{seats-of-tally, worker_at}

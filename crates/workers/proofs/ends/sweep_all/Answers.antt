@@ -1,4 +1,4 @@
-use Rattle.std.proofs.Common.{ap, refl}
+use Rattle.workers.proofs.Names.{ap, refl}
 use Rattle.workers.proofs.BackLemmas.{crew-full, is-over, late-work}
 use Rattle.workers.proofs.ends.sweep_all.Goals as goal
 

@@ -1,7 +1,7 @@
-use Rattle.std.proofs.Common.{length, subst, sym, ap, ◌∙◌, ◌≡◌, ◌<◌, true}
 use Rattle.run_crew.specs.CountLaws.{IsFull}
-use Rattle.run_crew.specs.Sweeps.{AllWork, GoOn, all_free}
-use Rattle.workers.specs.Threads.{workers_stage}
+use Rattle.run_crew.specs.Sweeps.{AllWork}
+use Rattle.workers.proofs.Names.{length, subst, sym, ap, ◌∙◌, ◌≡◌, ◌<◌, true, GoOn, all_free}
+use Rattle.workers.proofs.Names.{workers_stage}
 use Rattle.workers.proofs.CrewLemmas.{written-whole}
 use Rattle.workers.proofs.ends.sweep_crew.Goals as goal
 

@@ -1,6 +1,6 @@
-use Rattle.std.proofs.Common.{◌++◌, ◌∷◌, [], length, reverse, refl, sym, ap, ◌∙◌}
-use Rattle.std.proofs.lemmas.List.{length-map, reverse-reverse}
+use Rattle.std.proofs.lemmas.List.{reverse-reverse}
 use Rattle.rtrb.specs.Ring.{known_items}
+use Rattle.workers.proofs.Names.{◌++◌, ◌∷◌, [], length, reverse, refl, sym, ap, ◌∙◌, length-map}
 use Rattle.workers.proofs.RingLemmas.{next-settled, none-settled, ring-pair}
 use Rattle.workers.proofs.TakenLemmas.{taken-at, taken-part, taken-whole}
 use Rattle.workers.proofs.lists.take_queues.Goals as goal

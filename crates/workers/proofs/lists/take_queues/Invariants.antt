@@ -1,6 +1,4 @@
-use Rattle.std.proofs.Common.{◌≡◌, ◌++◌, List, length, map, reverse}
-use Rattle.steer_base.specs.Journals.{journal}
-use Rattle.run_workers.specs.declared.poller.Poller.{Poller}
+use Rattle.workers.proofs.Names.{◌≡◌, ◌++◌, List, length, map, reverse, journal, Poller}
 use Rattle.workers.proofs.RingLemmas.{AreSettled}
 use Rattle.workers.proofs.lists.take_queues.Given as goal
 

@@ -1,4 +1,4 @@
-use Rattle.std.proofs.Common.{◌++◌, ◌∷◌, [], ◌∙◌}
+use Rattle.workers.proofs.Names.{◌++◌, ◌∷◌, [], ◌∙◌}
 use Rattle.workers.proofs.TakenLemmas.{taken-part, taken-whole}
 use Rattle.workers.proofs.lists.take_replies.Goals as goal
 

@@ -1,6 +1,4 @@
-use Rattle.std.proofs.Common.{◌≡◌, ◌++◌, List, length, map, reverse}
-use Rattle.steer_base.specs.Journals.{journal}
-use Rattle.run_workers.specs.declared.server.Server.{Server}
+use Rattle.workers.proofs.Names.{◌≡◌, ◌++◌, List, length, map, reverse, journal, Server}
 use Rattle.workers.proofs.lists.take_replies.Given as goal
 
 abbrev pub invariant-loop-server : goal.invariant-loop-server

@@ -1,4 +1,4 @@
-use Rattle.workers.specs.GatheredHands.{dealt_items}
+use Rattle.workers.proofs.Names.{dealt_items}
 use Rattle.workers.proofs.parts.all_actors.Given as goal
 
 abbrev pub ghost-gather : goal.ghost-gather

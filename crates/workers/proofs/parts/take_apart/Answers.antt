@@ -1,4 +1,4 @@
-use Rattle.std.proofs.Common.{◌++◌, ◌∷◌, [], refl}
+use Rattle.workers.proofs.Names.{◌++◌, ◌∷◌, [], refl}
 use Rattle.workers.proofs.TakenLemmas.{taken-part, taken-whole}
 use Rattle.workers.proofs.parts.take_apart.Goals as goal
 

@@ -1,6 +1,4 @@
-use Rattle.std.proofs.Common.{◌≡◌, ◌+◌, ◌++◌, List, length, map, reverse}
-use Rattle.steer_base.specs.Journals.{journal}
-use Rattle.run_crew.specs.declared.seated.Seated.{Seated}
+use Rattle.workers.proofs.Names.{◌≡◌, ◌+◌, ◌++◌, List, length, map, reverse, journal, Seated}
 use Rattle.workers.proofs.parts.take_apart.Given as goal
 
 abbrev pub invariant-loop-worker : goal.invariant-loop-worker

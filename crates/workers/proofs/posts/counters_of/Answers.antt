@@ -1,5 +1,7 @@
-use Rattle.std.proofs.Common.{◌≡◌, ◌∷◌, ◌++◌, [], ap, sym, ◌∙◌, arith, length, map, append_assoc}
-use Rattle.std.proofs.lemmas.List.{length-append, map-append}
+use Rattle.std.proofs.Common.{append_assoc}
+use Rattle.std.proofs.lemmas.List.{map-append}
+use Rattle.workers.proofs.Names.{◌≡◌, ◌∷◌, ◌++◌, [], ap, sym, ◌∙◌, arith, length, map}
+use Rattle.workers.proofs.Names.{length-append}
 use Rattle.workers.proofs.EachLemmas.{each_end, each_of_none}
 use Rattle.workers.proofs.posts.counters_of.Goals as goal
 

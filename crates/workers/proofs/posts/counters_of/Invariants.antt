@@ -1,5 +1,4 @@
-use Rattle.std.proofs.Common.{◌≡◌, ◌++◌, length, map}
-use Rattle.run_workers.specs.Actors.{Each}
+use Rattle.workers.proofs.Names.{◌≡◌, ◌++◌, length, map, Each}
 use Rattle.workers.proofs.posts.counters_of.Given as goal
 
 abbrev pub invariant-loop-number : goal.invariant-loop-number

@@ -1,6 +1,4 @@
-use Rattle.std.proofs.Common.{◌≡◌, ◌++◌, length, map}
-use Rattle.std.specs.Vec.Iter.{into_iter_items}
-use Rattle.steer_base.specs.Journals.{journal}
+use Rattle.workers.proofs.Names.{◌≡◌, ◌++◌, length, map, into_iter_items, journal}
 use Rattle.workers.proofs.posts.dismiss.Given as goal
 
 abbrev pub invariant-loop-post : goal.invariant-loop-post

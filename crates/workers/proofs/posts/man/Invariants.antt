@@ -1,5 +1,4 @@
-use Rattle.std.proofs.Common.{◌≡◌, ◌++◌, length, map}
-use Rattle.std.specs.Vec.Iter.{into_iter_items}
+use Rattle.workers.proofs.Names.{◌≡◌, ◌++◌, length, map, into_iter_items}
 use Rattle.workers.proofs.posts.man.Given as goal
 
 abbrev pub invariant-loop-seated : goal.invariant-loop-seated

@@ -1,6 +1,6 @@
-use Rattle.std.proofs.Common.{◌++◌, ◌∷◌, [], ap, sym, ◌∙◌, arith, append_assoc}
-use Rattle.std.proofs.lemmas.List.{length-append, length-set}
-use Rattle.std.specs.Vec.Iter.{into_iter_items}
+use Rattle.std.proofs.Common.{append_assoc}
+use Rattle.workers.proofs.Names.{◌++◌, ◌∷◌, [], ap, sym, ◌∙◌, arith, length-append, length-set}
+use Rattle.workers.proofs.Names.{into_iter_items}
 use Rattle.workers.proofs.DealLemmas.{one-more}
 use Rattle.workers.proofs.round_robin.deal.Goals as goal
 

@@ -1,6 +1,4 @@
-use Rattle.std.proofs.Common.{◌≡◌, ◌++◌, length, map}
-use Rattle.std.specs.Vec.Iter.{into_iter_items}
-use Rattle.workers.specs.RoundRobin.{AreDealt}
+use Rattle.workers.proofs.Names.{◌≡◌, ◌++◌, length, map, into_iter_items, AreDealt}
 use Rattle.workers.proofs.round_robin.deal.Given as goal
 
 abbrev pub invariant-loop-item : goal.invariant-loop-item

@@ -1,4 +1,5 @@
-use Rattle.std.proofs.Common.{◌≡◌, [], map, replicate}
+use Rattle.std.proofs.Common.{replicate}
+use Rattle.workers.proofs.Names.{◌≡◌, [], map}
 use Rattle.workers.proofs.round_robin.empty_hands.Given as goal
 
 abbrev pub invariant-loop : goal.invariant-loop

@@ -1,4 +1,4 @@
-use Rattle.std.proofs.Common.{arith}
+use Rattle.workers.proofs.Names.{arith}
 use Rattle.workers.proofs.RoundRobinLemmas.{not-empty, one-less}
 use Rattle.workers.proofs.round_robin.gather.Goals as goal
 

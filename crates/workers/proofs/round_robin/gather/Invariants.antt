@@ -1,5 +1,5 @@
-use Rattle.std.proofs.Common.{◌≤◌, length}
 use Rattle.std.specs.Vec.{vec_capacity}
+use Rattle.workers.proofs.Names.{◌≤◌, length}
 use Rattle.workers.proofs.RoundRobinLemmas.{AreLeft}
 use Rattle.workers.proofs.round_robin.gather.Given as goal
 

@@ -1,7 +1,6 @@
-use Rattle.std.proofs.Common.{refl, subst}
 use Rattle.steer_model.specs.Good.GoodHistory.{Good}
-use Rattle.steer_model.specs.Good.Inputs.{Input}
 use Rattle.run_coupling.specs.Coupling.Runs.{IsRun}
+use Rattle.workers.proofs.Names.{refl, subst, Input}
 use Rattle.workers.proofs.BackLemmas.{input_of, own-flows, own-start, same-input}
 use Rattle.workers.proofs.running.run_threads.Goals as goal
 

@@ -1,5 +1,5 @@
-use Rattle.std.proofs.Common.{◌≡◌, ◌+◌, ◌++◌, length, map}
 use Rattle.std.specs.Vec.{vec_len}
+use Rattle.workers.proofs.Names.{◌≡◌, ◌+◌, ◌++◌, length, map}
 use Rattle.workers.proofs.seats.workers_seats.Given as goal
 
 abbrev pub invariant-loop : goal.invariant-loop

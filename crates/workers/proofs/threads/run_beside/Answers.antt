@@ -1,5 +1,4 @@
-use denote.Param.Send.{sendable}
-use Rattle.std.proofs.Crossing.{crosses}
+use Rattle.workers.proofs.Names.{sendable, crosses}
 use Rattle.workers.proofs.start.SeatedWire.TheSendSync as wire
 use Rattle.plan_reader.proofs.plan.Plan.TheSendSync as plan
 use Rattle.workers.proofs.Crosses.{stage_sync}

@@ -1,5 +1,4 @@
-use denote.Param.Send.{sendable}
-use Rattle.std.proofs.Crossing.{crosses}
+use Rattle.workers.proofs.Names.{sendable, crosses}
 use Rattle.workers.proofs.Crosses.{post_send, stage_sync, tally_sync}
 use Rattle.workers.proofs.threads.run_with_controller.Goals as goal
 

@@ -1,9 +1,8 @@
-use denote.Param.Send.{sendable}
 use Rattle.std.specs.Prelude.{slice_get}
-use Rattle.std.proofs.Common.{length, slice_index_or, subst, sym, ap, ◌∙◌}
 use Rattle.workers.specs.Posts.{HasWorked, HaveWorked}
-use Rattle.workers.specs.Threads.{workers_stage}
 use Rattle.workers.specs.declared.posts.Post.{Post}
+use Rattle.workers.proofs.Names.{sendable, length, slice_index_or, subst, sym, ap, ◌∙◌}
+use Rattle.workers.proofs.Names.{workers_stage}
 use Rattle.workers.proofs.CrewLemmas.{at-place, written-whole}
 use Rattle.workers.proofs.Crosses.{post_send, stage_sync, tally_sync}
 use Rattle.workers.proofs.PostLemmas.{all-worked}

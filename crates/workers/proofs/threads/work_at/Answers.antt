@@ -1,4 +1,4 @@
-use Rattle.std.proofs.Common.{length}
+use Rattle.workers.proofs.Names.{length}
 use Rattle.workers.proofs.PostLemmas.{seen-or-looked}
 use Rattle.workers.proofs.threads.work_at.Goals as goal
 

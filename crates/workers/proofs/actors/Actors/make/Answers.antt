@@ -1,7 +1,5 @@
-use Rattle.std.proofs.Common.{◌∙◌, arith, length, subst}
-use Rattle.run_workers.specs.Actors.{Each}
 use Rattle.steer_model.proofs.Capture.FlowLemmas.{count_within}
-use Rattle.workers.specs.Actors.{IsFirstServer}
+use Rattle.workers.proofs.Names.{◌∙◌, arith, length, subst, Each, IsFirstServer}
 use Rattle.workers.proofs.actors.Actors.make.Goals as goal
 
 pub overflow_cast-flow_count : goal.overflow_cast-flow_count

@@ -1,5 +1,4 @@
-use Rattle.std.proofs.Common.{length, sym, ap, ◌∙◌}
-use Rattle.linearization.specs.Seats.{new_seats}
+use Rattle.workers.proofs.Names.{length, sym, ap, ◌∙◌, new_seats}
 use Rattle.workers.proofs.PostLemmas.{first-counters, new-seats-count}
 use Rattle.workers.proofs.posts.Posts.make.Goals as goal
 

@@ -1,4 +1,4 @@
-use Rattle.std.proofs.Common.{ap, refl}
+use Rattle.workers.proofs.Names.{ap, refl}
 use Rattle.workers.proofs.StartLemmas.{is_start}
 use Rattle.workers.proofs.start.Run.make.Goals as goal
 

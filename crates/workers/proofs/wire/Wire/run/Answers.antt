@@ -1,4 +1,4 @@
-use Rattle.std.proofs.Common.{◌∙◌}
+use Rattle.workers.proofs.Names.{◌∙◌}
 use Rattle.workers.proofs.WireLemmas.{ids_more, keeps_rings, led_more, length_more, room_more}
 use Rattle.workers.proofs.wire.Wire.run.Goals as goal
 

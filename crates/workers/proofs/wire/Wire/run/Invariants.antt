@@ -1,6 +1,5 @@
-use Rattle.std.proofs.Common.{◌≡◌, length, map}
-use Rattle.std.specs.List.{range_with_len}
-use Rattle.workers.specs.Wires.{ArePushed, KeepsRings}
+use Rattle.workers.specs.Wires.{KeepsRings}
+use Rattle.workers.proofs.Names.{◌≡◌, length, map, range_with_len, ArePushed}
 use Rattle.workers.proofs.WireLemmas.{Led}
 use Rattle.workers.proofs.wire.Wire.run.Given as goal
 
