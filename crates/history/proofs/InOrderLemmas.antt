@@ -1,13 +1,14 @@
--- One reply more is looked up.
+-- One packet more, or one reply more, is looked up.
 use Rattle.std.proofs.Common.{ℕ, ◌≡◌, ◌+◌, ◌<◌, List, Option, None, length, set, arith}
 use Rattle.std.proofs.Common.{sym, get_or, inl, inr, subst}
 use Rattle.std.specs.Prelude.{slice_index_or}
 use Rattle.std.specs.Option.{option_map}
 use Rattle.std.proofs.lemmas.Bool.{cases_eq}
 use Rattle.std.proofs.lemmas.List.{get_or-set_other, get_or-set_same}
-use Rattle.history.specs.InOrder.{AreBegun, begun_of}
+use Rattle.history.specs.InOrder.{AreBegun, AreLanes, begun_of, lane_at}
 use Rattle.history.specs.declared.lines.begun.Begun.{Begun}
 use Rattle.history.specs.declared.lines.in_order.TheConstants.{AHEAD}
+use Rattle.history.specs.declared.packet_line.PacketLine.{PacketLine}
 use Rattle.history.specs.declared.reply_line.ReplyLine.{ReplyLine}
 
 -- what holds of the first items, and of one that is set after them, holds of all these
@@ -32,4 +33,14 @@ replies-next lines first k replies begun size few within before at = record {
   within = omega (arith, within);
   reply = one-more (λ i o. o ≡ option_map begun_of (slice_index_or lines (first + i) None)) replies
       k begun None (omega (arith, size, few)) before.reply at;
+}
+
+pub lanes-next : (lines : List PacketLine) (first k : ℕ) (lanes : List (Option ℕ)) (lane : Option ℕ)
+    → length lanes ≡ AHEAD → k < AHEAD → first + k < length lines → AreLanes lines first k lanes
+    → lane ≡ lane_at lines (first + k) → AreLanes lines first (k + 1) (set lanes k lane)
+lanes-next lines first k lanes lane size few within before at = record {
+  few = omega (arith, few);
+  within = omega (arith, within);
+  lane = one-more (λ i o. o ≡ lane_at lines (first + i)) lanes k lane None
+      (omega (arith, size, few)) before.lane at;
 }

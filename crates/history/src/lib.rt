@@ -26,7 +26,7 @@ pub use laws::{
     a_packet_has_one_place, few_lanes_are_in_reach, histories_are_found_again, lines_fit,
 };
 pub use lines::Lines;
-pub use lines::in_order::ReplyLines;
+pub use lines::in_order::{PacketLines, ReplyLines};
 pub use packet_line::{PacketLine, Via};
 pub use place::Place;
 pub use reply_line::ReplyLine;

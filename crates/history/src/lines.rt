@@ -3,7 +3,7 @@ ghost use Rattle.std.specs.Prelude.{◌≡◌, ℕ, ◌<◌, ◌≤◌, None, is
 ghost use Rattle.std.specs.Prelude.{slice_index_or, IfOk};
 ghost use Rattle.std.specs.Option.{option_map};
 ghost use Rattle.steer_base.specs.declared.limits.TheConstants.{MAX_PACKETS};
-ghost use Rattle.history.specs.InOrder.{begun_of};
+ghost use Rattle.history.specs.InOrder.{begun_of, lane_at};
 ghost use Rattle.history.specs.Lines.{is_replied, lines_of, packet_line, reply_line};
 ghost use Rattle.history.specs.Lists.{arrivals_at};
 ghost use Rattle.history.specs.declared.packet_line.PacketLine.{PacketLine};
@@ -19,7 +19,7 @@ use crate::known::counted::Counted;
 use crate::lines::begun::Begun;
 use crate::packet_line::PacketLine;
 use crate::reply_line::ReplyLine;
-use making::{begun_reply, packet_line, reply_line};
+use making::{begun_reply, choice_at, lane_of, packet_line, reply_line};
 use slots::Slots;
 use std::alloc::Global;
 use std::marker::Model;
@@ -94,7 +94,8 @@ impl<'a> Lines<'a> {
 
     // The number of packets that arrived, which is within 32 bits.
     pub(crate) fn arrived(&self) -> u32
-        ensures { result ≡ length self.now.replies }
+        ensures packets { result ≡ length self.now.packets }
+        ensures replies { result ≡ length self.now.replies }
     {
         self.history.arrivals.len() as u32
     }
@@ -104,8 +105,35 @@ impl<'a> Lines<'a> {
         requires { id < length self.now.packets }
         ensures { result ≡ slice_index_or self.now.packets id result }
     {
+        self.packet_with(id, self.lane(id))
+    }
+
+    // The processor that was chosen for a packet that arrived, if one was.
+    pub(crate) fn lane(&self, id: PacketId) -> Option<u8>
+        requires { id < length self.now.packets }
+        ensures { result ≡ lane_at self.now.packets id }
+    {
         let rank = self.counted.ranks[id.0 as usize];
-        packet_line(self.history, &self.slots, self.packets, self.apps, rank, id)
+        let queue = self.history.arrivals.get(id.0 as usize).queue;
+        lane_of(choice_at(&self.history.choices, queue.0 as usize, rank as usize))
+    }
+
+    // The line of a packet that arrived, for which this processor was chosen.
+    pub(crate) fn packet_with(&self, id: PacketId, lane: Option<u8>) -> PacketLine
+        requires arrived { id < length self.now.packets }
+        requires lane { lane ≡ lane_at self.now.packets id }
+        ensures { result ≡ slice_index_or self.now.packets id result }
+    {
+        let rank = self.counted.ranks[id.0 as usize];
+        packet_line(
+            self.history,
+            &self.slots,
+            self.packets,
+            self.apps,
+            rank,
+            lane,
+            id,
+        )
     }
 
     /// The line of the reply to a packet, if one was begun.

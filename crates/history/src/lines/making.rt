@@ -7,7 +7,7 @@ ghost use Rattle.history.specs.Counted.{rank_of};
 ghost use Rattle.history.specs.Finding.{first_some};
 ghost use Rattle.history.specs.InOrder.{begun_of};
 ghost use Rattle.history.specs.Known.{pulled_lane};
-ghost use Rattle.history.specs.Lines.{accepted_place, drop_in, inbox_place_of};
+ghost use Rattle.history.specs.Lines.{accepted_place, choice_of, drop_in, inbox_place_of};
 ghost use Rattle.history.specs.Lines.{packet_line as line_of_packet, reply_line as line_of_reply};
 ghost use Rattle.history.specs.Lines.{via_of as via_of_arrival};
 ghost use Rattle.history.specs.Lists.{list_at};
@@ -26,13 +26,15 @@ use crate::reply_line::ReplyLine;
 use crate::sent::Sent;
 use steer_base::{AppId, Choice, Chosen, Cpu, List, Packet, PacketId, Put, app_of, number_at};
 
-// The line of a packet that arrived, which `rank` others of its queue came before.
+// The line of a packet that arrived, which `rank` others of its queue came before, and for which
+// this processor was chosen.
 pub(crate) fn packet_line(
     h: &History,
     slots: &Slots,
     packets: &[Packet],
     apps: u8,
     rank: u32,
+    lane: Option<u8>,
     id: PacketId,
 ) -> PacketLine
     requires regular { Regular packets.now apps h.now }
@@ -40,6 +42,7 @@ pub(crate) fn packet_line(
     requires apps { 1 ≤ apps }
     requires arrived { id < length h.now.arrivals }
     requires rank { rank ≡ rank_of h.now id }
+    requires lane { lane ≡ option_map (λ c. c.lane) (choice_of h.now id) }
     ensures { result ≡ line_of_packet packets.now apps h.now id }
 {
     let arrival = h.arrivals.get(id.0 as usize);
@@ -56,7 +59,7 @@ pub(crate) fn packet_line(
         put: put_of(h.start, slots.accepted.get(id), slots.drops.get(id)),
         app,
         inbox: slots.inboxes.get(id),
-        place: place_of(h, slots, app, lane_of(choice), taken, id),
+        place: place_of(h, slots, app, lane, taken, id),
         flow_number: packet.flow_number,
     }
 }
@@ -126,7 +129,7 @@ fn index_of(place: Option<u32>) -> Option<usize>
 }
 
 // The choice at an index of one of some lists.
-fn choice_at(lists: &List<List<Chosen>>, list: usize, index: usize) -> Option<Choice>
+pub(crate) fn choice_at(lists: &List<List<Chosen>>, list: usize, index: usize) -> Option<Choice>
     ensures { result ≡ option_map (λ c. c.choice) (slice_get (list_at lists.now list) index) }
 {
     let list = lists.as_slice().get(list)?;
@@ -200,7 +203,7 @@ fn place_by(
 }
 
 // The processor of a choice.
-fn lane_of(choice: Option<Choice>) -> Option<u8>
+pub(crate) fn lane_of(choice: Option<Choice>) -> Option<u8>
     ensures { result ≡ option_map (λ c. c.lane) choice }
 {
     Some(choice?.lane)

@@ -11,6 +11,6 @@ loop-k-preserved c =
     let size : length c.loop-k.replies ≡ AHEAD = search rules in
     let few : k < AHEAD = omega (arith, c.loop-k-test.true, c.min-known.ensures) in
     let within : first + k < length lines =
-    omega (arith, c.loop-k-test.true, c.min-known.ensures, c.arrived.ensures) in
+    omega (arith, c.loop-k-test.true, c.min-known.ensures, c.arrived.ensures.replies) in
     replies-next lines first k c.loop-k.replies c.begun.result size few within c.loop-k.invariant
     c.begun.ensures

@@ -53,10 +53,9 @@ returns c =
     let app : c.app_of-app.result ≡ app_at packets apps x = c.app_of-app.ensures.value
     ∙ ap (λ (p : Packet). app_of p.hash apps) packet in
     let inbox : c.get-3.result ≡ inbox_place_of h x = c.get-3.ensures ∙ slots.inboxes.slot x here in
-    let lane = c.lane_of.ensures ∙ ap (option_map (λ d. d.lane)) choice in
     let place : c.place_of.result ≡ place_of h x = c.place_of.ensures
-    ∙ place-by packets apps h regular x c.lane_of.result c.app_of-app.result
-    c.is_taken-taken.result lane app taken in
+    ∙ place-by packets apps h regular x c.args.lane c.app_of-app.result
+    c.is_taken-taken.result c.requires.lane app taken in
     λ w. record {
       id = x;
       queue = (arrival w).queue;
