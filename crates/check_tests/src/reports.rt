@@ -190,8 +190,8 @@ const NUMBERS: &[u8] = b"cpu 255 at 4294967295 in - to -\n";
 
 #[test]
 fn fields_are_numbers(rt: HostRuntime) -> Result<(), Fail> {
-    let mut fields = Fields::make(rt.alloc());
-    let next = fields.read(NUMBERS, 0)?;
+    let mut fields = Fields::make();
+    let next = fields.read(NUMBERS, 0);
     same(&rt, &next, &NUMBERS.len(), 0);
     same(
         &rt,

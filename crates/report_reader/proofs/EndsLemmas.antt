@@ -7,7 +7,7 @@ use Rattle.std.proofs.Math.ListN.{get_or-append}
 use Rattle.std.proofs.lemmas.List.{get_or-drop, length-append, length-drop, length-map}
 use Rattle.std.proofs.lemmas.Bool.{cases_lt}
 use Rattle.report.specs.Texts.{AreFields, IsField, further}
-use Rattle.report_reader.specs.Ends.{AreAbove, Going, IsEnd, piece}
+use Rattle.report_reader.specs.Ends.{Going, IsEnd, piece}
 
 field-at : (f : List ℕ) → IsField f → (j : ℕ) → j < length f → (get_or f j 0 ≢ 32)
     × (get_or f j 0 ≢ 10)
@@ -207,30 +207,14 @@ full-line f bytes start done all rest g few n =
     let e = ap length g.parts in
     omega (arith, m, l, e, few, n)
 
--- ---- bytes above the space
-
-pub above-more : (bytes : List ℕ) (a b : ℕ)
-    → ((j : ℕ) → a ≤ j → j < b → 32 < get_or bytes j 0) → 32 < get_or bytes b 0
-    → (j : ℕ) → a ≤ j → j < b + 1 → 32 < get_or bytes j 0
-above-more bytes a b before here j p q =
-    elim (cases_lt j b) [
-      | inl l ↦ before j p l
-      | inr k ↦ subst (λ i. 32 < get_or bytes i 0) (let e : b ≡ j = omega (arith, k, q) in e) here
-    ]
-
--- a byte that is no stop, and bytes above the space behind it
-pub plain-on : (bytes : List ℕ) (a b c : ℕ)
+-- one more byte that is no stop
+pub plain-more : (bytes : List ℕ) (a b : ℕ)
     → ((j : ℕ) → a ≤ j → j < b → (get_or bytes j 0 ≢ 32) × (get_or bytes j 0 ≢ 10))
-    → (get_or bytes b 0 ≢ 32) × (get_or bytes b 0 ≢ 10) → AreAbove bytes (b + 1) c
-    → (j : ℕ) → a ≤ j → j < c → (get_or bytes j 0 ≢ 32) × (get_or bytes j 0 ≢ 10)
-plain-on bytes a b c before here behind j p q =
+    → (get_or bytes b 0 ≢ 32) × (get_or bytes b 0 ≢ 10)
+    → (j : ℕ) → a ≤ j → j < b + 1 → (get_or bytes j 0 ≢ 32) × (get_or bytes j 0 ≢ 10)
+plain-more bytes a b before here j p q =
     elim (cases_lt j b) [
       | inl l ↦ before j p l
-      | inr k ↦ elim (cases_lt b j) [
-        | inl m ↦ (
-            let high = behind.above j (omega (arith, m)) q in
-            (λ e. absurd (omega (arith, high, e)), λ e. absurd (omega (arith, high, e))))
-        | inr m ↦ subst (λ i. (get_or bytes i 0 ≢ 32) × (get_or bytes i 0 ≢ 10))
-            (let e : b ≡ j = omega (arith, k, m) in e) here
-      ]
+      | inr k ↦ subst (λ i. (get_or bytes i 0 ≢ 32) × (get_or bytes i 0 ≢ 10))
+          (let e : b ≡ j = omega (arith, k, q) in e) here
     ]

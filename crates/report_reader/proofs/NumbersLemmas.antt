@@ -1,14 +1,29 @@
 -- The number that bytes give, each as a digit.
-use Rattle.std.proofs.Common.{ℕ, zero, suc, ◌≡◌, ◌≤◌, ◌<◌, ◌+◌, ◌-◌, ◌*◌, ◌^◌, ◌++◌, List, []}
-use Rattle.std.proofs.Common.{◌∷◌, Some, length, take, drop, refl, ap, ◌∙◌, sym, arith}
-use Rattle.std.proofs.Common.{decimal}
+use Rattle.std.proofs.Common.{ℕ, zero, suc, ◌≡◌, ◌≤◌, ◌<◌, ◌+◌, ◌-◌, ◌*◌, ◌%◌, ◌^◌, List, []}
+use Rattle.std.proofs.Common.{◌∷◌, ◌++◌, Some, length, take, drop, refl, ap, ◌∙◌, sym, arith}
+use Rattle.std.proofs.Common.{decimal, get_or, inl, inr, map, min, subst}
+use Rattle.std.specs.List.{All}
+use Rattle.std.proofs.lemmas.Bool.{cases_lt}
+use Rattle.std.proofs.lemmas.Fmt.{decimal_nonempty}
+use Rattle.std.proofs.lemmas.List.{get_or-map, get_or-take, get_or_past, length-map, length-take}
+use Rattle.std.proofs.lemmas.List.Elements.{All-get_or}
 use Rattle.std.specs.Prelude.{slice_index}
 use Rattle.report.proofs.Digits.{AreDigits, decimal-AreDigits}
 use Rattle.steer_base.specs.Decimals.{digits_from}
 use Rattle.report_reader.specs.Ends.{piece}
-use Rattle.report_reader.specs.Values.{next_number, number_from}
+use Rattle.report_reader.specs.Values.{IsNumber}
 use Rattle.report_reader.proofs.EndsLemmas.{drop-plus}
 use Rattle.report_reader.proofs.ValuesLemmas.{digits-of, goes}
+
+-- a number of 64 bits with one more digit; a byte that is none counts as some number
+abbrev pub next_number : (number byte : ℕ) → ℕ
+next_number number byte =
+    (((number * 10) % 2 ^ 64 + byte) % 2 ^ 64 + (2 ^ 64 - 48)) % 2 ^ 64
+
+-- the number that bytes go on with, each as a digit
+abbrev pub number_from : (number : ℕ) → (bytes : List ℕ) → ℕ
+number_from number [] = number
+number_from number (byte ∷ bytes) = number_from (next_number number byte) bytes
 
 -- ---- a decimal text gives its number
 
@@ -72,12 +87,6 @@ piece-one bytes a lt =
     let one : (a + 1) - a ≡ 1 = omega arith in
     ap (λ n. take n (drop a bytes)) one ∙ one-byte bytes a lt
 
--- a piece is empty where it ends at its start
-pub number-none : (k : ℕ) (bytes : List ℕ) (a : ℕ) → number_from k (piece bytes a a) ≡ k
-number-none k bytes a =
-    let none : a - a ≡ 0 = omega arith in
-    ap (λ n. number_from k (take n (drop a bytes))) none
-
 -- with one more byte
 pub number-more : (k : ℕ) (bytes : List ℕ) (a b m : ℕ) → a ≤ b → b < length bytes
     → m ≡ number_from k (piece bytes a b)
@@ -88,11 +97,53 @@ number-more k bytes a b m p lt e =
     ∙ number-join k (piece bytes a b) (slice_index bytes b ∷ [])
     ∙ ap (λ n. next_number n (slice_index bytes b)) (sym e))
 
--- and with the bytes up to a further place
-pub number-on : (k : ℕ) (bytes : List ℕ) (a b c m : ℕ) → a ≤ b → b ≤ c
-    → m ≡ number_from k (piece bytes a b)
-    → number_from m (piece bytes b c) ≡ number_from k (piece bytes a c)
-number-on k bytes a b c m p q e =
-    ap (λ n. number_from n (piece bytes b c)) e
-    ∙ sym (number-join k (piece bytes a b) (piece bytes b c))
-    ∙ ap (number_from k) (sym (piece-join bytes a b c p q))
+-- what was added up is the number of the bytes
+pub adds-up : (bytes : List ℕ) (number : ℕ) → number ≡ number_from 0 bytes → IsNumber bytes number
+adds-up bytes number e n h d = e ∙ ap (number_from 0) d ∙ decimal-gives n h
+
+-- no bytes are no number
+empty-number : (text : List ℕ) (number : ℕ) → text ≡ [] → IsNumber text number
+empty-number text number e n h d =
+    let some = decimal_nonempty n h in
+    let none : length (decimal n) ≡ 0 = ap length (sym d ∙ e) in
+    absurd (omega (arith, some, none))
+
+-- ---- the field of a number, and the number that it is
+
+module _ {A : Type 0} (text : A → List ℕ) (xs : List A) (n i : ℕ) where
+  long : length (take n xs) ≡ min n (length xs)
+  long = length-take n xs
+
+  same : length (map text (take n xs)) ≡ length (take n xs)
+  same = length-map (take n xs) text
+
+  -- there is no field behind the last
+  past : min n (length xs) ≤ i → IsNumber (get_or (map text (take n xs)) i []) 0
+  past l =
+      empty-number (get_or (map text (take n xs)) i []) 0
+      (get_or_past (map text (take n xs)) i [] (omega (arith, l, long, same)))
+
+  pub number-past : n ≤ i → IsNumber (get_or (map text (take n xs)) i []) 0
+  number-past l = past (omega (arith, l))
+
+  inside : (number : A → ℕ) (d : A) → i < n → i < length xs
+      → All (λ x. IsNumber (text x) (number x)) (take n xs)
+      → IsNumber (get_or (map text (take n xs)) i []) (number (get_or xs i d))
+  inside number d l m all =
+      let in' : i < length (take n xs) = omega (arith, l, m, long) in
+      let here : get_or (take n xs) i d ≡ get_or xs i d = get_or-take n xs i d l in
+      let at : text (get_or (take n xs) i d) ≡ get_or (map text (take n xs)) i [] =
+      sym (get_or-map text (take n xs) i d [] in') in
+      subst (λ x. IsNumber (get_or (map text (take n xs)) i []) (number x)) here
+      (subst (λ t. IsNumber t (number (get_or (take n xs) i d))) at
+      (All-get_or (λ x. IsNumber (text x) (number x)) (take n xs) i d in' all))
+
+  pub number-at : (number : A → ℕ) (d : A) → number d ≡ 0 → i < n
+      → All (λ x. IsNumber (text x) (number x)) (take n xs)
+      → IsNumber (get_or (map text (take n xs)) i []) (number (get_or xs i d))
+  number-at number d none l all = elim (cases_lt i (length xs)) [
+    | inl m ↦ inside number d l m all
+    | inr k ↦
+        subst (IsNumber (get_or (map text (take n xs)) i []))
+        (sym (ap number (get_or_past xs i d k) ∙ none)) (past (omega (arith, k)))
+  ]

@@ -1,8 +1,11 @@
 -- The values of a line are read one after the other, and the words before them are stepped over.
 use Rattle.std.proofs.Common.{ℕ, zero, suc, min, ◌≡◌, ◌≤◌, ◌+◌, ◌-◌, ◌++◌, ◌⊎◌, List, []}
 use Rattle.std.proofs.Common.{◌∷◌, length, drop, map, refl, ap, ◌∙◌, sym, subst, arith, get_or}
-use Rattle.std.proofs.Common.{append_assoc, inl, inr}
-use Rattle.std.proofs.lemmas.List.{length-append, length-drop, length-map}
+use Rattle.std.proofs.Common.{◌<◌, append_assoc, inl, inr, set, take}
+use Rattle.std.specs.List.{All}
+use Rattle.std.proofs.lemmas.List.{length-append, length-drop, length-map, length-take-le}
+use Rattle.std.proofs.lemmas.List.{take_more_set}
+use Rattle.std.proofs.lemmas.List.Elements.{All-push}
 use Rattle.std.specs.Prelude.{slice_index_or}
 use Rattle.report.specs.Texts.{AreFields, further}
 use Rattle.report_reader.specs.Ends.{Going, IsEnd, piece}
@@ -89,6 +92,26 @@ module _ (bytes : List ℕ) (start from : ℕ) (done wanted : List (List ℕ)) (
         joins = j;
       }
 
+  fits : (n : ℕ) (word : List ℕ) (fields : List (List ℕ)) (more : List ℕ)
+      → drop start bytes ≡ word ++ (further fields ++ rest)
+      → HasSteps (n ∷ more) (word ∷ fields) → n ≤ length bytes - start
+  fits n word [] more t h = absurd h
+  fits n word (value ∷ fields) more t h =
+      let tail = (value ++ further fields) ++ rest in
+      let a : length (drop start bytes) ≡ length word + suc (length tail) =
+      ap length t ∙ length-append word (32 ∷ tail) in
+      let b = length-drop start bytes in
+      let k = h.0 in
+      omega (arith, a, b, k)
+
+  fits-by : (steps more : List ℕ) (n : ℕ) → Front steps n more
+      → Stepping bytes start steps done wanted rest → n ≤ length bytes - start
+  fits-by steps more n (inl f) s = let none = f.2 in omega (arith, none)
+  fits-by steps more n (inr f) s =
+      let g = s.line in
+      fits n g.next g.more more g.text (subst (HasSteps (n ∷ more)) (sym g.parts)
+      (subst (λ k. HasSteps k s.left) f s.has))
+
   step-word : (n : ℕ) (more : List ℕ) → Stepping bytes start (n ∷ more) done wanted rest
       → from ≡ start + min n (length bytes - start) → AtValue bytes from more done wanted rest
   step-word n more s e =
@@ -115,6 +138,25 @@ module _ (bytes : List ℕ) (start from : ℕ) (done wanted : List (List ℕ)) (
       let same : n ≡ slice_index_or steps i 0 = w ∙ ap (λ k. slice_index_or steps k 0) l in
       step-by (drop i steps) (drop (suc i) steps) (slice_index_or steps i 0) (front steps i) s
       (e ∙ ap (λ k. start + min k (length bytes - start)) same)
+
+-- a word that is stepped over stands in the bytes
+pub step-fits : (bytes : List ℕ) (start : ℕ) (steps : List ℕ) (i n : ℕ)
+    (done wanted : List (List ℕ)) (rest : List ℕ) → n ≡ slice_index_or steps i 0
+    → Stepping bytes start (drop i steps) done wanted rest → n ≤ length bytes - start
+step-fits bytes start steps i n done wanted rest w s =
+    let f = fits-by bytes start start done wanted rest (drop i steps) (drop (suc i) steps)
+    (slice_index_or steps i 0) (front steps i) s in
+    omega (arith, w, f)
+
+-- the first of a list, and one more
+pub first-view : {A : Type 0} (f : A → List ℕ) (xs : List A) (n : ℕ) (x : A) → n < length xs
+    → map f (take (n + 1) (set xs n x)) ≡ map f (take n xs) ++ (f x ∷ [])
+first-view f xs n x l = pushed-view f (take n xs) _ x (take_more_set xs n x l)
+
+pub first-all : {A : Type 0} (P : A → Type 0) (xs : List A) (n : ℕ) (x : A) → n < length xs
+    → All P (take n xs) → P x → All P (take (n + 1) (set xs n x))
+first-all P xs n x l all p =
+    subst (All P) (sym (take_more_set xs n x l)) (All-push P (take n xs) x all p)
 
 -- no step is left behind the last value
 last-value : (steps : List ℕ) (more : List (List ℕ)) → HasSteps steps more → more ≡ []
@@ -165,18 +207,16 @@ module _ (bytes : List ℕ) (from end : ℕ) (steps : List ℕ) (done wanted : L
               ∙ v.joins;
         }
 
--- the values that were found are those of a list
-pub value-pushed : {A : Type 0} (f : A → List ℕ) (bytes : List ℕ) (next : ℕ) (steps : List ℕ)
-    (old new : List A) (x : A) (wanted : List (List ℕ)) (rest : List ℕ) → new ≡ old ++ (x ∷ [])
-    → Stepping bytes next (drop (suc (length old)) steps) (map f old ++ (f x ∷ [])) wanted rest
-    → Stepping bytes next (drop (length new) steps) (map f new) wanted rest
-value-pushed f bytes next steps old new x wanted rest e s =
-    let a : length new ≡ length (old ++ (x ∷ [])) = ap length e in
-    let b = length-append old (x ∷ []) in
-    let longer : length new ≡ suc (length old) = omega (arith, a, b) in
-    subst (λ done. Stepping bytes next (drop (length new) steps) done wanted rest)
-    (sym (pushed-view f old new x e))
-    (subst (λ k. Stepping bytes next (drop k steps) (map f old ++ (f x ∷ [])) wanted rest)
+-- one value more stands in the first of a list
+pub value-set : {A : Type 0} (f : A → List ℕ) (bytes : List ℕ) (next : ℕ) (steps : List ℕ)
+    (xs : List A) (n : ℕ) (x : A) (wanted : List (List ℕ)) (rest : List ℕ) → n < length xs
+    → Stepping bytes next (drop (suc n) steps) (map f (take n xs) ++ (f x ∷ [])) wanted rest
+    → Stepping bytes next (drop (n + 1) steps) (map f (take (n + 1) (set xs n x))) wanted rest
+value-set f bytes next steps xs n x wanted rest l s =
+    let longer : n + 1 ≡ suc n = omega arith in
+    subst (λ done. Stepping bytes next (drop (n + 1) steps) done wanted rest)
+    (sym (first-view f xs n x l))
+    (subst (λ k. Stepping bytes next (drop k steps) (map f (take n xs) ++ (f x ∷ [])) wanted rest)
     (sym longer) s)
 
 few-values : (steps : List ℕ) (fields : List (List ℕ)) → length (values_of steps fields)
@@ -188,15 +228,17 @@ few-values (n ∷ steps) (w ∷ v ∷ more) = let i = few-values steps more in o
 
 -- a line that goes on has more values than those that were found
 pub full-values : {A : Type 0} (f : A → List ℕ) (bytes : List ℕ) (from : ℕ)
-    (steps all-steps : List ℕ) (done : List A) (all : List (List ℕ)) (rest : List ℕ)
-    → AtValue bytes from steps (map f done) (values_of all-steps all) rest → length all ≤ 40
-    → length done ≡ 40 → ⊥
-full-values f bytes from steps all-steps done all rest v few n =
-    let m : length (map f done) ≡ length done = length-map done f in
-    let l = length-append (map f done) (v.value ∷ values_of steps v.more) in
+    (steps all-steps : List ℕ) (xs : List A) (count : ℕ) (all : List (List ℕ)) (rest : List ℕ)
+    → AtValue bytes from steps (map f (take count xs)) (values_of all-steps all) rest
+    → length all ≤ 40 → 40 ≤ count → count ≤ length xs → ⊥
+full-values f bytes from steps all-steps xs count all rest v few n k =
+    let t : length (take count xs) ≡ count = length-take-le count xs k in
+    let m : length (map f (take count xs)) ≡ length (take count xs) =
+    length-map (take count xs) f in
+    let l = length-append (map f (take count xs)) (v.value ∷ values_of steps v.more) in
     let e = ap length v.joins in
     let w = few-values all-steps all in
-    omega (arith, m, l, e, w, few, n)
+    omega (arith, t, m, l, e, w, few, n)
 
 -- the first field of a line
 pub first-field : (bytes : List ℕ) (start end : ℕ) (word : List ℕ) (fields : List (List ℕ))

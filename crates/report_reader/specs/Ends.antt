@@ -15,12 +15,6 @@ pub record IsEnd (bytes : List ℕ) (at end : ℕ) : Type 0 where
 abbrev pub piece : (bytes : List ℕ) → (at end : ℕ) → List ℕ
 piece bytes at end = take (end - at) (drop at bytes)
 
--- All bytes from a place on and before another are above the space.
-pub record AreAbove (bytes : List ℕ) (at end : ℕ) : Type 0 where
-  pub behind : at ≤ end
-  pub within : end ≤ length bytes
-  pub above : (j : ℕ) → at ≤ j → j < end → 32 < slice_index bytes j
-
 -- A line that is being read: the fields so far, the next one, those behind it, and what follows.
 pub record Going (bytes : List ℕ) (start : ℕ) (done all : List (List ℕ)) (rest : List ℕ) : Type 0
   where

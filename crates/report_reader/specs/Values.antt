@@ -1,6 +1,6 @@
 -- The values of a line: its fields without the words that name the first of them, and the numbers
 -- that they are.
-use Rattle.std.specs.Prelude.{ℕ, suc, ◌≡◌, ◌+◌, ◌-◌, ◌*◌, ◌%◌, ◌^◌, List, [], ◌∷◌, length, ⊤}
+use Rattle.std.specs.Prelude.{ℕ, suc, ◌≡◌, ◌<◌, ◌^◌, List, [], ◌∷◌, decimal, length, ⊤}
 
 -- before each of the first values of a line stands a word, so many bytes with the space behind it
 abbrev pub HasSteps : (steps : List ℕ) → (fields : List (List ℕ)) → Type 0
@@ -16,11 +16,7 @@ values_of (n ∷ steps) [] = []
 values_of (n ∷ steps) (word ∷ []) = []
 values_of (n ∷ steps) (word ∷ value ∷ more) = value ∷ values_of steps more
 
--- a number of 64 bits with one more digit; a byte that is none counts as some number
-abbrev pub next_number : (number byte : ℕ) → ℕ
-next_number number byte = ((number * 10) % 2 ^ 64 + (byte + (2 ^ 8 - 48)) % 2 ^ 8) % 2 ^ 64
-
--- the number that bytes go on with, each as a digit
-abbrev pub number_from : (number : ℕ) → (bytes : List ℕ) → ℕ
-number_from number [] = number
-number_from number (byte ∷ bytes) = number_from (next_number number byte) bytes
+-- Bytes that are the decimal digits of a number below 2^64 give this number. Other bytes give some
+-- number.
+abbrev pub IsNumber : (bytes : List ℕ) → (number : ℕ) → Type 0
+IsNumber bytes number = (n : ℕ) → n < 2 ^ 64 → bytes ≡ decimal n → number ≡ n

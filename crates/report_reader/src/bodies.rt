@@ -28,11 +28,11 @@ pub fn read_texts(alloc: Global, bytes: &[u8], at: usize) -> Result<Part<TapText
         (λ part. length part.items.items * SHORTEST_TAP + at ≤ part.next) }
     ensures reads { IfOk result (λ part. ReadsTexts bytes.now at part.items.items part.next) }
 {
-    let mut fields = Fields::make(alloc);
+    let mut fields = Fields::make();
     let mut items = Vec::new(alloc);
     let mut next = at;
     while next < bytes.len() {
-        let after = fields.read(bytes, next)?;
+        let after = fields.read(bytes, next);
         let is_tap = fields.at(0) == b"tap".as_slice();
         if !is_tap {
             return Ok(Part { items, next });

@@ -1,10 +1,8 @@
 //! The last line of a report.
-ghost use Rattle.std.specs.Prelude.{◌≡◌, ◌≤◌, ℕ, Option, IfOk, length};
+ghost use Rattle.std.specs.Prelude.{◌≡◌, ◌≤◌, ℕ, Option, length};
 ghost use Rattle.report_reader.specs.Sections.{IsLast, ShowsCut};
 
 use crate::fields::Fields;
-use std::alloc::Global;
-use steer_base::OutOfMemory;
 
 /// What the last line shows.
 #[derive(Clone, Copy, Debug, PartialEq, Eq, Drop)]
@@ -27,15 +25,15 @@ fn cut_of(fields: &Fields<'_>) -> Option<u32>
 }
 
 /// What the last line shows, from a place on.
-pub fn read_last(alloc: Global, bytes: &[u8], at: usize) -> Result<LastLine, OutOfMemory>
+pub fn read_last(bytes: &[u8], at: usize) -> LastLine
     requires { at ≤ length bytes.now }
-    ensures { IfOk result (λ last. (arrived total : ℕ) (cut : Option ℕ)
-        → IsLast bytes.now at arrived total cut → (last.total ≡ total) × (last.cut ≡ cut)) }
+    ensures { (arrived total : ℕ) (cut : Option ℕ) → IsLast bytes.now at arrived total cut
+        → (result.total ≡ total) × (result.cut ≡ cut) }
 {
-    let mut fields = Fields::make(alloc);
-    fields.read(bytes, at)?;
-    Ok(LastLine {
+    let mut fields = Fields::make();
+    fields.read(bytes, at);
+    LastLine {
         total: fields.word(3),
         cut: cut_of(&fields),
-    })
+    }
 }

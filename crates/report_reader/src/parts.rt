@@ -45,8 +45,8 @@ pub fn read_parts(alloc: Global, bytes: &[u8], most: usize) -> Result<Parts, Out
     ensures few { IfOk result (λ p. length p.packets.items ≤ most) }
 {
     lines_fit();
-    let mut fields = Fields::make(alloc);
-    let first = fields.read(bytes, 0)?;
+    let mut fields = Fields::make();
+    let first = fields.read(bytes, 0);
     let packets = read_section(alloc, bytes, first, most, &Packets)?;
     let replies = read_section(alloc, bytes, packets.next, most, &Replies)?;
     let queues = read_section(alloc, bytes, replies.next, bytes.len(), &Queues)?;
@@ -55,7 +55,7 @@ pub fn read_parts(alloc: Global, bytes: &[u8], most: usize) -> Result<Parts, Out
     let writes = read_section(alloc, bytes, txs.next, bytes.len(), &Writes)?;
     let commands = read_section(alloc, bytes, writes.next, bytes.len(), &Commands)?;
     let texts = read_texts(alloc, bytes, commands.next)?;
-    let last = read_last(alloc, bytes, texts.next)?;
+    let last = read_last(bytes, texts.next);
     Ok(Parts {
         packets: packets.items,
         replies: replies.items,

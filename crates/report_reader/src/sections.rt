@@ -66,7 +66,7 @@ pub fn read_section<T: Drop, S: Section<T>>(
     ensures reads { IfOk result
         (λ part. Reads S.first S.least S.shows bytes.now at most part.items.items part.next) }
 {
-    let mut values = Fields::make(alloc);
+    let mut values = Fields::make();
     let mut items = Vec::new(alloc);
     let mut next = at;
     while next < bytes.len() {
@@ -77,7 +77,7 @@ pub fn read_section<T: Drop, S: Section<T>>(
         if !is_own {
             return Ok(Part { items, next });
         }
-        let after = values.read_values(bytes, next, of.steps())?;
+        let after = values.read_values(bytes, next, of.steps());
         if after - next < of.shortest() {
             return Ok(Part { items, next });
         }

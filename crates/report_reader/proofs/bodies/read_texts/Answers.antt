@@ -8,7 +8,7 @@ use Rattle.report_reader.proofs.bodies.read_texts.Goals as goal
 
 pub returns-then-not-is_tap-clause-reads : goal.returns-then-not-is_tap-clause-reads
 returns-then-not-is_tap-clause-reads c = λ texts i rest s o t.
-    texts-stop _ _ _ _ _ o _ _ c.in_ok-after.ensures.fields c.in_ok-after.ensures.next
+    texts-stop _ _ _ _ _ o _ _ c.read-after.ensures.fields c.read-after.ensures.next
     (c.loop-next.invariant.reading texts i rest s o t)
     (λ e.
     let same : c.at.result.now ≡ c.as_slice.result.now = c.at.ensures ∙ e
@@ -22,17 +22,17 @@ pub returns-then-after-next-lt-SHORTEST_TAP-clause-reads :
 returns-then-after-next-lt-SHORTEST_TAP-clause-reads c = λ texts i rest s o t.
     let same = (bytes_eq-Decides c.at.result.now c.as_slice.result.now).0 (sym c.eq-is_tap.ensures
     ∙ c.if-not-is_tap.false) in
-    let room = texts-room _ _ _ _ _ o _ _ c.in_ok-after.ensures.fields c.in_ok-after.ensures.next
+    let room = texts-room _ _ _ _ _ o _ _ c.read-after.ensures.fields c.read-after.ensures.next
     (c.loop-next.invariant.reading texts i rest s o t) (sym c.at.ensures ∙ same
     ∙ c.as_slice.ensures) in
-    let a = length-drop c.in_ok-after.after c.args.bytes.now in
+    let a = length-drop c.read-after.result c.args.bytes.now in
     let b = length-drop c.loop-next.next c.args.bytes.now in
     absurd (omega (
       arith,
       room,
       a,
       b,
-      c.in_ok-after.ensures.within,
+      c.read-after.ensures.within,
       c.if-after-next-lt-SHORTEST_TAP.true,
     ))
 
@@ -40,11 +40,11 @@ pub returns-then-long-bytes-clause-reads : goal.returns-then-long-bytes-clause-r
 returns-then-long-bytes-clause-reads c = λ texts i rest s o t.
     let same = (bytes_eq-Decides c.at.result.now c.as_slice.result.now).0 (sym c.eq-is_tap.ensures
     ∙ c.if-not-is_tap.false) in
-    let n = texts-go _ _ _ _ _ o _ _ c.in_ok-after.ensures.fields c.in_ok-after.ensures.next
+    let n = texts-go _ _ _ _ _ o _ _ c.read-after.ensures.fields c.read-after.ensures.next
     (c.loop-next.invariant.reading texts i rest s o t) (sym c.at.ensures ∙ same
     ∙ c.as_slice.ensures) in
     let long = c.number-long.ensures (length n.this) n.small (c.at-in-loop-next.ensures ∙ n.long) in
-    let fits = text-fits c.args.bytes.now n.this _ c.in_ok-after.after c.in_ok-after.ensures.within
+    let fits = text-fits c.args.bytes.now n.this _ c.read-after.result c.read-after.ensures.within
     n.text in
     absurd (omega (arith, long, fits, c.if-long-bytes.true))
 
@@ -55,7 +55,7 @@ loop-next-preserved c = record {
   reading = λ texts i rest s o t.
       let same = (bytes_eq-Decides c.at.result.now c.as_slice.result.now).0 (sym c.eq-is_tap.ensures
       ∙ c.if-not-is_tap.false) in
-      let n = texts-go _ _ _ _ _ o _ _ c.in_ok-after.ensures.fields c.in_ok-after.ensures.next
+      let n = texts-go _ _ _ _ _ o _ _ c.read-after.ensures.fields c.read-after.ensures.next
       (c.loop-next.invariant.reading texts i rest s o t) (sym c.at.ensures ∙ same
       ∙ c.as_slice.ensures) in
       let long = c.number-long.ensures (length n.this) n.small (c.at-in-loop-next.ensures ∙ n.long)

@@ -1,28 +1,23 @@
-use Rattle.std.proofs.Common.{◌+◌, ap, ◌∙◌, arith}
-use Rattle.report_reader.specs.Ends.{piece}
-use Rattle.report_reader.specs.Values.{number_from}
-use Rattle.report_reader.proofs.EndsLemmas.{plain-on}
-use Rattle.report_reader.proofs.NumbersLemmas.{number-more, number-on}
+use Rattle.std.proofs.Common.{ap, ◌∙◌, arith}
+use Rattle.report_reader.proofs.EndsLemmas.{plain-more}
+use Rattle.report_reader.proofs.NumbersLemmas.{adds-up, next_number, number-more}
 use Rattle.report_reader.proofs.ends.field_end.Goals as goal
 
-pub loop-found-preserved : goal.loop-found-preserved
-loop-found-preserved c =
-    let i = c.loop-found.invariant in
-    let next = c.first_low-found-in-loop-found in
-    let bytes = c.args.bytes.now in
-    let at = c.args.at in
-    let here = c.loop-found.found.at in
-    let before = i.behind in
-    let behind = next.ensures.above.behind in
+pub loop-end-preserved : goal.loop-end-preserved
+loop-end-preserved c =
+    let i = c.loop-end.invariant in
     record {
-      behind = omega (arith, before, behind);
-      within = next.ensures.above.within;
-      plain = plain-on bytes at here next.result.at i.plain
-          (c.is_stop.ensures.no c.if-is_stop.false) next.ensures.above;
-      number = next.ensures.number
-          ∙ ap (λ m. number_from m (piece bytes (here + 1) next.result.at))
-          c.next_number-number.ensures
-          ∙ number-on 0 bytes at (here + 1) next.result.at _ (omega (arith, before)) behind
-          (number-more 0 bytes at here c.loop-found.found.number before c.loop-found-test.true
-          i.number);
+      behind = omega (arith, i.behind);
+      within = omega (arith, c.loop-end-test.true);
+      plain = plain-more c.args.bytes.now c.args.at c.loop-end.end i.plain
+          (c.is_stop.ensures.no c.if-is_stop.false);
+      number = ap (next_number c.loop-end.number) c.from.ensures
+          ∙ number-more 0 c.args.bytes.now c.args.at c.loop-end.end c.loop-end.number i.behind
+          c.loop-end-test.true i.number;
     }
+
+pub returns-then-is_stop-clause-number : goal.returns-then-is_stop-clause-number
+returns-then-is_stop-clause-number c = adds-up _ _ c.loop-end.invariant.number
+
+pub returns-clause-number : goal.returns-clause-number
+returns-clause-number c = adds-up _ _ c.loop-end.invariant.number

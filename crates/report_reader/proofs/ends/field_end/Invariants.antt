@@ -1,16 +1,16 @@
 use Rattle.std.proofs.Common.{◌≡◌, ◌≤◌, ◌<◌, ◌≢◌, ◌-◌, ℕ, length, slice_index}
 use Rattle.report_reader.specs.Ends.{piece}
-use Rattle.report_reader.specs.Values.{number_from}
+use Rattle.report_reader.proofs.NumbersLemmas.{number_from}
 use Rattle.report_reader.proofs.ends.field_end.Given as goal
 
-abbrev pub invariant-loop-found : goal.invariant-loop-found
-invariant-loop-found l = record {
-  behind : l.fn.at ≤ l.found.at;
-  within : l.found.at ≤ length l.bytes;
-  plain : (j : ℕ) → l.fn.at ≤ j → j < l.found.at → (slice_index l.bytes j ≢ 32)
+abbrev pub invariant-loop-end : goal.invariant-loop-end
+invariant-loop-end l = record {
+  behind : l.at ≤ l.end;
+  within : l.end ≤ length l.bytes;
+  plain : (j : ℕ) → l.at ≤ j → j < l.end → (slice_index l.bytes j ≢ 32)
       × (slice_index l.bytes j ≢ 10);
-  number : l.found.number ≡ number_from 0 (piece l.bytes l.fn.at l.found.at);
+  number : l.number ≡ number_from 0 (piece l.bytes l.at l.end);
 }
 
-abbrev pub decreases-loop-found : goal.decreases-loop-found
-decreases-loop-found l = length l.bytes - l.found.at
+abbrev pub decreases-loop-end : goal.decreases-loop-end
+decreases-loop-end l = length l.bytes - l.end

@@ -27,16 +27,16 @@ returns-then-after-next-clause-reads g c = λ items rows rest s m o t.
     (sym c.eq-is_own.ensures ∙ c.if-not-is_own.false) in
     let room = section-room _ _ _ _ _ _ _ _ o _ c.first_field.ensures c.steps.result.now
     g.S.Section.gives c.steps.ensures _ _
-    c.in_ok-after.ensures.values c.in_ok-after.ensures.next
+    c.read_values-after.ensures.values c.read_values-after.ensures.next
     (c.loop-next.invariant.reading items rows rest s m o t) (same ∙ c.word.ensures) in
-    let a = length-drop c.in_ok-after.after c.args.bytes.now in
+    let a = length-drop c.read_values-after.result c.args.bytes.now in
     let b = length-drop c.loop-next.next c.args.bytes.now in
     absurd (omega (
       arith,
       room,
       a,
       b,
-      c.in_ok-after.ensures.within,
+      c.read_values-after.ensures.within,
       c.shortest.ensures,
       c.if-after-next.true,
     ))
@@ -45,23 +45,23 @@ pub loop-next-preserved : goal.loop-next-preserved
 loop-next-preserved g c = record {
   within = search rules;
   few = search rules;
-  fit = fits-more g.S.Section.least c.args.at c.loop-next.next c.in_ok-after.after _ _ _
+  fit = fits-more g.S.Section.least c.args.at c.loop-next.next c.read_values-after.result _ _ _
       c.in_ok-push.ensures.items c.loop-next.invariant.fit
       (omega (
         arith,
         c.shortest.ensures,
         c.if-after-next.false,
-        c.in_ok-after.ensures.after (omega (arith, c.loop-next-test.true)),
+        c.read_values-after.ensures.after (omega (arith, c.loop-next-test.true)),
       ));
   reading = λ items rows rest s m o t.
       let same = (bytes_eq-Decides c.first_field.result.now c.word.result.now).0
       (sym c.eq-is_own.ensures ∙ c.if-not-is_own.false) in
       let n = section-goes _ _ _ _ _ _ _ _ o _ c.first_field.ensures c.steps.result.now
       g.S.Section.gives c.steps.ensures _ _
-      c.in_ok-after.ensures.values c.in_ok-after.ensures.next
+      c.read_values-after.ensures.values c.read_values-after.ensures.next
       (c.loop-next.invariant.reading items rows rest s m o t) (same ∙ c.word.ensures) in
       subst (λ done. Left g.S.Section.first g.S.Section.least g.S.Section.shows c.args.bytes.now
-      c.in_ok-after.after done items rest)
+      c.read_values-after.result done items rest)
       (ap (λ x. c.loop-next.items.items ++ (x ∷ [])) (sym (c.item.ensures n.0 n.1))
       ∙ sym c.in_ok-push.ensures.items) n.2;
 }
