@@ -93,10 +93,8 @@ fn count_at(counts: &[u32], list: usize) -> usize
 fn zeros(alloc: Global, count: usize) -> Result<Vec<PacketId>, OutOfMemory>
     ensures { IfOk result (λ ids. length ids.items ≡ count) }
 {
-    let mut ids = Vec::with_capacity(alloc, count)?;
-    for _i in 0..count {
-        ids.push(PacketId(0))?;
-    }
+    let mut ids = Vec::new(alloc);
+    ids.resize(count, PacketId(0))?;
     Ok(ids)
 }
 
