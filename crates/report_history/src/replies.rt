@@ -80,10 +80,12 @@ fn own_replies(
     let mut replies = Vec::with_capacity(alloc, ids.len())?;
     let mut choices = Vec::with_capacity(alloc, ids.len())?;
     for id in ids {
-        if let Some(sent) = shown_sent(seen, *id) {
+        let sent = shown_sent(seen, *id);
+        let choice = choice_for(seen, packets, *id);
+        if let Some(sent) = sent {
             replies.push(sent)?;
         }
-        if let Some(choice) = choice_for(seen, packets, *id) {
+        if let Some(choice) = choice {
             choices.push(choice)?;
         }
     }
