@@ -1,6 +1,7 @@
 mod BeginsLemmas
 mod FromShape
 mod FromTests
+mod MeetingLemmas
 mod PassingLanes
 mod PassingLemmas
 mod PassingLists

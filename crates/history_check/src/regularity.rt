@@ -44,7 +44,7 @@ fn passes(alloc: Global, h: &History, packets: &[Packet], apps: u8) -> Result<bo
         apps,
     };
     Ok(
-        are_polled(h, &counted)
+        are_polled(alloc, h, &counted)?
             && items.are_steered()
             && items.are_delivered()
             && items.have_replies()
@@ -55,7 +55,7 @@ fn passes(alloc: Global, h: &History, packets: &[Packet], apps: u8) -> Result<bo
 
 /// Decides whether a history is regular for these packets and `apps` applications, as lines
 /// require: whether each list agrees with those before it on the way of a packet. Takes time and
-/// memory linear in the packets for each receive queue, and frees the memory at the end.
+/// memory linear in the packets and the receive queues, and frees the memory at the end.
 pub fn is_regular(
     alloc: Global,
     history: &History,
