@@ -1,12 +1,15 @@
 -- The heads that choices saw, one choice more.
-use Rattle.std.proofs.Common.{ℕ, ◌≡◌, ◌≤◌, ◌<◌, ◌+◌, List, []}
+use Rattle.std.proofs.Common.{ℕ, ◌≡◌, ◌≤◌, ◌<◌, ◌+◌, List, [], Some, true, false}
 use Rattle.std.proofs.Common.{length, ap, ◌∙◌, sym, arith, inl, inr, get_or, set, subst}
-use Rattle.std.specs.Prelude.{slice_index}
+use Rattle.std.specs.Prelude.{is_some, slice_index}
+use Rattle.std.specs.List.{list_any}
 use Rattle.std.proofs.Math.ListN.{get_or-eq_default}
 use Rattle.std.proofs.lemmas.Bool.{cases_eq, cases_lt}
 use Rattle.std.proofs.lemmas.List.{get_or-set_other, get_or-set_same}
+use Rattle.std.proofs.lemmas.List.Folds.{list_any_at}
 use Rattle.steer_base.specs.Counters.{distance}
 use Rattle.steer_base.specs.declared.choice.Chosen.{Chosen}
+use Rattle.hop_model.specs.Hop.{chosen_at, nobody}
 use Rattle.history.specs.Lists.{lane_at, list_at}
 use Rattle.history.specs.declared.lane_list.LaneList.{LaneList}
 use Rattle.history.proofs.SamePlaces.{some_same}
@@ -129,6 +132,19 @@ rise-none start lanes cs none = record {
   rise = λ j k before head lane below l a b c d. let e : length cs ≡ 0 = ap length none in
       absurd (omega (arith, e, l));
 }
+
+-- choices that saw no heads
+pub rise-unseen : (start : ℕ) (lanes : List LaneList) (cs : List Chosen)
+    → list_any (λ c. is_some c.choice.head) cs ≡ false → HeadsRise start lanes cs
+rise-unseen start lanes cs none =
+    let seen : (k head : ℕ) → k < length cs → (chosen_at cs k).choice.head ≡ Some head → ⊥ =
+    λ k head l h.
+    let t : list_any (λ c. is_some c.choice.head) cs ≡ true =
+    list_any_at (λ c. is_some c.choice.head) cs k nobody l (ap is_some h) in
+    let f : true ≡ false = sym t ∙ none in absurd (cc) in record {
+      within = λ k head lane l h s. absurd (seen k head l h);
+      rise = λ j k before head lane below l a b c d. absurd (seen k head l c);
+    }
 
 -- each list, and those past the last
 pub all-lists : (start : ℕ) (lanes : List LaneList) (lists : List (List Chosen))

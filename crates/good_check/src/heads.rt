@@ -1,6 +1,7 @@
 //! Clause 5: the heads that choices saw rise.
 ghost use Rattle.std.specs.Prelude.{ℕ, ◌≡◌, ◌+◌, ◌<◌, List, IfOk, false, length, true};
-ghost use Rattle.std.specs.Prelude.{vec_len};
+ghost use Rattle.std.specs.Prelude.{is_some, vec_len};
+ghost use Rattle.std.specs.List.{list_any};
 ghost use Rattle.steer_base.specs.Counters.{distance};
 ghost use Rattle.steer_base.specs.declared.choice.Chosen.{Chosen as AChosen};
 ghost use Rattle.hop_model.specs.Hop.{chosen_at};
@@ -94,6 +95,16 @@ fn lane_of(current: &CurrentLanes, chosen: &Chosen) -> Option<u8>
     }
 }
 
+// Whether one of some choices saw a head.
+fn saw_head(choices: &List<Chosen>) -> bool
+    ensures { result ≡ list_any (λ c. is_some c.choice.head) choices.now }
+{
+    choices
+        .as_slice()
+        .iter()
+        .any(|chosen| chosen.choice.head.is_some())
+}
+
 // Whether the heads that the choices of a producer saw rise at each lane.
 fn heads_rise(
     alloc: Global,
@@ -104,6 +115,9 @@ fn heads_rise(
     ensures yes { IfOk result (λ r. r ≡ true → HeadsRise start lanes.now choices.now) }
     ensures no { IfOk result (λ r. HeadsRise start lanes.now choices.now → r ≡ true) }
 {
+    if !saw_head(choices) {
+        return Ok(true);
+    }
     let mut current = CurrentLanes::new(alloc);
     let mut last = Vec::new(alloc);
     last.resize(LANES, 0)?;
