@@ -74,6 +74,8 @@ impl LineBuf {
     {
         if number < 10 {
             self.push(&[b'0' + number as u8]);
+        } else if number < 100 {
+            self.push(&[b'0' + (number / 10) as u8, b'0' + (number % 10) as u8]);
         } else {
             self.push_digits(number);
         }
