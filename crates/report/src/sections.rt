@@ -12,7 +12,7 @@ use crate::commands::command_line;
 use crate::line::LineBuf;
 use crate::packets::{packet_line, reply_line};
 use crate::sums::{cpu_line, queue_line, tap_line, tx_line, write_line};
-use history::{Commanded, LaneList, Lines, ReplyLine, ReplyLines, SockWrite};
+use history::{Commanded, LaneList, Lines, PacketLines, ReplyLine, ReplyLines, SockWrite};
 use outside_io::{Sink, WriteFault, write_whole};
 use steer_base::{List, PacketId};
 use taps::TapText;
@@ -44,8 +44,9 @@ pub(crate) fn write_packets<K: Sink>(
         (Stopped (K.written out.old) (K.written out.new) (K.faults out.old) (K.faults out.new)
         (text_of (packet_rows lines.now.packets))) }
 {
+    let mut packets = PacketLines::of(lines);
     for id in 0..arrived {
-        packet_line(buf, &lines.packet(PacketId(id)));
+        packet_line(buf, &packets.line(PacketId(id)));
         put_line(buf, out)?;
     }
     Ok(())

@@ -6,7 +6,7 @@ ghost use Rattle.history.specs.declared.packet_line.PacketLine.{PacketLine};
 ghost use Rattle.taps.specs.Shown.{least_after as least_of, lines_left, shown_to, text_of};
 
 use crate::tap::{Tap, TapText};
-use history::{Lines, PacketLine};
+use history::{Lines, PacketLine, PacketLines};
 use std::alloc::Global;
 use steer_base::{Detach, OutOfMemory, PacketId};
 
@@ -36,8 +36,9 @@ pub fn feed(
         (enumerate_from 0 taps.items)) }
 {
     let mut fed = counted(alloc, taps, arrived, detach)?;
+    let mut packets = PacketLines::of(lines);
     for id in 0..arrived {
-        note_all(&mut fed, lines, id)?;
+        note_all(&mut fed, &packets.line(PacketId(id)), id)?;
     }
     finish_all(alloc, fed)
 }
@@ -86,16 +87,15 @@ fn least_after(tap: usize, detach: &[Detach], count: u32) -> u32
         .fold(count, |least, after| least.min(after))
 }
 
-// Makes the line of a packet and shows it to each tap that still is shown lines.
-fn note_all(fed: &mut [Fed<Box<dyn Tap>>], lines: &Lines, id: u32) -> Result<(), OutOfMemory>
-    requires { id < length lines.now.packets }
-    ensures { OnOk result
-        (map (text_of (λ tap count. text tap (lines_left count (id + 1) lines.now.packets))) fed.new
-        ≡ map (text_of (λ tap count. text tap (lines_left count id lines.now.packets))) fed.old) }
+// Shows the line of a packet to each tap that still is shown lines.
+fn note_all(fed: &mut [Fed<Box<dyn Tap>>], line: &PacketLine, id: u32) -> Result<(), OutOfMemory>
+    ensures { OnOk result ((lines : List PacketLine) → id < length lines
+        → line.now ≡ slice_index_or lines id line.now
+        → map (text_of (λ tap count. text tap (lines_left count (id + 1) lines))) fed.new
+        ≡ map (text_of (λ tap count. text tap (lines_left count id lines))) fed.old) }
 {
-    let line = lines.packet(PacketId(id));
     for i in 0..fed.len() {
-        note_next(&mut fed[i], id, &line)?;
+        note_next(&mut fed[i], id, line)?;
     }
     Ok(())
 }
