@@ -331,13 +331,15 @@ app-writes-shown a (w ∷ writes) l f r =
       few = omega arith;
       long = write-long a w;
       shown = record {
-        app_fits = l;
-        app = refl;
-        entry_fits = h.entry;
-        entry = refl;
-        cpu_fits =
-            h.cpu;
-        cpu = refl;
+        steps = (refl, (refl, (refl, tt)));
+        values = record {
+          app_fits = l;
+          app = refl;
+          entry_fits = h.entry;
+          entry = refl;
+          cpu_fits = h.cpu;
+          cpu = refl;
+        };
       };
     } in
     (s, app-writes-shown a writes l (All-tail WriteFits w writes f) r.1)

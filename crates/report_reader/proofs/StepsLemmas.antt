@@ -64,9 +64,9 @@ module _ (bytes : List ℕ) (start from : ℕ) (done wanted : List (List ℕ)) (
 
   over : (n : ℕ) (word : List ℕ) (fields : List (List ℕ)) (more : List ℕ)
       → drop start bytes ≡ word ++ (further fields ++ rest) → AreFields fields
-      → HasSteps (n ∷ more) (word ∷ fields)
-      → done ++ values_of (n ∷ more) (word ∷ fields) ≡ wanted
-      → from ≡ start + min n (length bytes - start) → AtValue bytes from more done wanted rest
+      → HasSteps (suc n ∷ more) (word ∷ fields)
+      → done ++ values_of (suc n ∷ more) (word ∷ fields) ≡ wanted
+      → from ≡ start + min (suc n) (length bytes - start) → AtValue bytes from more done wanted rest
   over n word [] more t fs h j e = absurd h
   over n word (value ∷ fields) more t fs h j e =
       let tail = (value ++ further fields) ++ rest in
@@ -95,8 +95,9 @@ module _ (bytes : List ℕ) (start from : ℕ) (done wanted : List (List ℕ)) (
   fits : (n : ℕ) (word : List ℕ) (fields : List (List ℕ)) (more : List ℕ)
       → drop start bytes ≡ word ++ (further fields ++ rest)
       → HasSteps (n ∷ more) (word ∷ fields) → n ≤ length bytes - start
-  fits n word [] more t h = absurd h
-  fits n word (value ∷ fields) more t h =
+  fits zero word fields more t h = omega arith
+  fits (suc n) word [] more t h = absurd h
+  fits (suc n) word (value ∷ fields) more t h =
       let tail = (value ++ further fields) ++ rest in
       let a : length (drop start bytes) ≡ length word + suc (length tail) =
       ap length t ∙ length-append word (32 ∷ tail) in
@@ -112,13 +113,34 @@ module _ (bytes : List ℕ) (start from : ℕ) (done wanted : List (List ℕ)) (
       fits n g.next g.more more g.text (subst (HasSteps (n ∷ more)) (sym g.parts)
       (subst (λ k. HasSteps k s.left) f s.has))
 
+  step-zero : (more : List ℕ) → Stepping bytes start (zero ∷ more) done wanted rest
+      → from ≡ start + min zero (length bytes - start) → AtValue bytes from more done wanted rest
+  step-zero more s e =
+      let g = s.line in
+      let here : from ≡ start = omega (arith, e) in
+      record {
+        value = g.next;
+        more = g.more;
+        line = record {
+          next = g.next;
+          more = g.more;
+          parts = refl;
+          text = ap (λ k. drop k bytes) here ∙ g.text;
+          is_field = g.is_field;
+          are_fields = g.are_fields;
+        };
+        has = subst (HasSteps (zero ∷ more)) (sym g.parts) s.has;
+        joins = ap (λ l. done ++ values_of (zero ∷ more) l) g.parts ∙ s.joins;
+      }
+
   step-word : (n : ℕ) (more : List ℕ) → Stepping bytes start (n ∷ more) done wanted rest
       → from ≡ start + min n (length bytes - start) → AtValue bytes from more done wanted rest
-  step-word n more s e =
+  step-word zero more s e = step-zero more s e
+  step-word (suc n) more s e =
       let g = s.line in
       over n g.next g.more more g.text g.are_fields
-      (subst (HasSteps (n ∷ more)) (sym g.parts) s.has)
-      (ap (λ l. done ++ values_of (n ∷ more) l) g.parts ∙ s.joins) e
+      (subst (HasSteps (suc n ∷ more)) (sym g.parts) s.has)
+      (ap (λ l. done ++ values_of (suc n ∷ more) l) g.parts ∙ s.joins) e
 
   step-by : (steps more : List ℕ) (n : ℕ) → Front steps n more
       → Stepping bytes start steps done wanted rest
@@ -163,8 +185,7 @@ last-value : (steps : List ℕ) (more : List (List ℕ)) → HasSteps steps more
     → values_of steps more ≡ []
 last-value [] more h e = e
 last-value (n ∷ steps) [] h e = absurd h
-last-value (n ∷ steps) (w ∷ []) h e = refl
-last-value (n ∷ steps) (w ∷ v ∷ more) h e = absurd (cc)
+last-value (n ∷ steps) (w ∷ more) h e = absurd (cc)
 
 head-same : (x y : List ℕ) (xs ys : List (List ℕ)) → x ∷ xs ≡ y ∷ ys → x ≡ y
 head-same x y xs ys e = ap (λ l. slice_index_or l 0 x) e
@@ -223,8 +244,9 @@ few-values : (steps : List ℕ) (fields : List (List ℕ)) → length (values_of
     ≤ length fields
 few-values [] fields = omega arith
 few-values (n ∷ steps) [] = omega arith
-few-values (n ∷ steps) (w ∷ []) = omega arith
-few-values (n ∷ steps) (w ∷ v ∷ more) = let i = few-values steps more in omega (arith, i)
+few-values (zero ∷ steps) (v ∷ more) = let i = few-values steps more in omega (arith, i)
+few-values (suc n ∷ steps) (w ∷ []) = omega arith
+few-values (suc n ∷ steps) (w ∷ v ∷ more) = let i = few-values steps more in omega (arith, i)
 
 -- a line that goes on has more values than those that were found
 pub full-values : {A : Type 0} (f : A → List ℕ) (bytes : List ℕ) (from : ℕ)

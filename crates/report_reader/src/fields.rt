@@ -194,7 +194,8 @@ impl<'a> Fields<'a> {
     }
 
     /// Takes the values of the line that begins at a place, and answers where the next line begins.
-    /// Before each of the first values a word of so many bytes, with its space, is stepped over.
+    /// Before each of the first values a word of so many bytes, with its space, is stepped over,
+    /// and none where the number is 0.
     pub fn read_values(&mut self, bytes: &'a [u8], at: usize, steps: &[u8]) -> usize
         requires { at ≤ length bytes.now }
         ensures values { (all : List (List ℕ)) (rest : List ℕ) → length all ≤ 40

@@ -30,7 +30,8 @@ pub trait Section<T> {
     fn shortest(&self) -> usize
         ensures { result ≡ least };
 
-    /// The bytes of the words before the first values of a line, each with its space.
+    /// The bytes of the words before the first values of a line, each with its space, and 0 where
+    /// none stands before a value.
     fn steps(&self) -> &'static [u8]
         ensures { (item : T) (fields : List (List ℕ)) → shows item fields
             → HasSteps result.now fields × gives item (values_of result.now fields) };

@@ -5,7 +5,7 @@ ghost use Rattle.report_reader.specs.declared.shortest.TheConstants.{SHORTEST_QU
 ghost use Rattle.report_reader.specs.declared.shortest.TheConstants.{SHORTEST_TX};
 ghost use Rattle.report_reader.specs.declared.shortest.TheConstants.{SHORTEST_WRITE};
 ghost use Rattle.report_reader.specs.declared.sums.LaneSums.{LaneSums as ASums};
-ghost use Rattle.report_reader.specs.Sums.{ShowsSums, ShowsTaken, ShowsWrite};
+ghost use Rattle.report_reader.specs.Sums.{GivesWrite, ShowsSums, ShowsTaken, ShowsWrite};
 
 use crate::fields::Fields;
 use crate::sections::Section;
@@ -32,6 +32,10 @@ pub struct AppWrite {
     /// Its write.
     pub write: SockWrite,
 }
+
+// The bytes of w, entry and cpu, each with a space. The value behind w is the word app, and no word
+// stands before the next.
+const WRITE_STEPS: &[u8] = &[2, 0, 6, 4];
 
 /// The lines of receive queues: the number of packets that were taken.
 pub struct Queues;
@@ -141,7 +145,7 @@ impl Section<AppWrite> for Writes {
 
     ghost shows = { ShowsWrite };
 
-    ghost gives = { ShowsWrite };
+    ghost gives = { GivesWrite };
 
     fn word(&self) -> &'static [u8] {
         b"w".as_slice()
@@ -152,15 +156,15 @@ impl Section<AppWrite> for Writes {
     }
 
     fn steps(&self) -> &'static [u8] {
-        &[]
+        WRITE_STEPS
     }
 
     fn item(&self, fields: &Fields<'_>) -> AppWrite {
         AppWrite {
-            app: AppId(fields.byte(2)),
+            app: AppId(fields.byte(1)),
             write: SockWrite {
-                entry: fields.word(4),
-                cpu: Cpu(fields.byte(6)),
+                entry: fields.word(2),
+                cpu: Cpu(fields.byte(3)),
             },
         }
     }
