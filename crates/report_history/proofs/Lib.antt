@@ -1,3 +1,4 @@
+pub mod AheadLemmas
 pub mod BuiltLemmas
 pub mod ChoicesLemmas
 pub mod ListsLemmas

@@ -1,3 +1,4 @@
+pub mod Ahead
 pub mod Lists
 pub mod Printed
 pub mod Shown

@@ -74,6 +74,12 @@ shown_sent seen x = option_map (line_sent x) (shown_reply seen x)
 abbrev pub with_class : ℕ → Choice → Choice
 with_class flow c = record c { class = Some flow }
 
+-- the transmit queue choice for the reply to a packet, with this flow number as its class
+abbrev pub choice_with : List Seen → ℕ → ℕ → Option Chosen
+choice_with seen flow x =
+    option_map (λ c. with_packet x (with_class flow c))
+    (option_and_then (λ r. r.choice) (shown_reply seen x))
+
 -- the transmit queue choice for a reply: its class is the flow number of the packet
 abbrev pub shown_tx_choice : List Seen → List Packet → Sent → Option Chosen
 shown_tx_choice seen packets s =

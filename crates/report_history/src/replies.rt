@@ -1,9 +1,9 @@
 //! The replies of the applications and their transmit queue choices.
-ghost use Rattle.std.specs.Prelude.{◌≡◌, IfOk, List as Items, map};
-ghost use Rattle.std.specs.List.{cons_option, filter_map};
+ghost use Rattle.std.specs.Prelude.{◌≡◌, ◌<◌, IfOk, length, map};
+ghost use Rattle.std.specs.List.{filter_map};
 ghost use Rattle.history.specs.Lists.{packet_at};
-ghost use Rattle.history.specs.declared.sent.Sent.{Sent as ASent};
-ghost use Rattle.report_history.specs.Shown.{shown_sent, shown_tx_choice, with_class};
+ghost use Rattle.report_history.specs.Ahead.{AreAhead};
+ghost use Rattle.report_history.specs.Shown.{choice_with, shown_sent, shown_tx_choice, with_class};
 
 use crate::lookup::{shown_reply, shown_sent};
 use history::Sent;
@@ -33,27 +33,48 @@ fn with_class(flow: u32, choice: Choice) -> Choice
     }
 }
 
-// The transmit queue choice for a reply.
-fn shown_tx_choice(seen: &SeenList, packets: &[Packet], sent: Sent) -> Option<Chosen>
-    ensures { result ≡ shown_tx_choice seen.now packets.now sent }
+// The transmit queue choice for the reply to a packet, with this flow number as its class.
+fn choice_with(seen: &SeenList, flow: u32, id: PacketId) -> Option<Chosen>
+    ensures { result ≡ choice_with seen.now flow id }
 {
-    let choice = shown_reply(seen, sent.id)?.choice?;
+    let choice = shown_reply(seen, id)?.choice?;
     Some(Chosen {
-        id: sent.id,
-        choice: with_class(flow_of(packets, sent.id), choice),
+        id,
+        choice: with_class(flow, choice),
     })
 }
 
-// The transmit queue choice for the reply to a packet, if the reply was begun and chosen for.
-fn choice_for(seen: &SeenList, packets: &[Packet], id: PacketId) -> Option<Chosen>
-    ensures { (more : Items ASent) → filter_map (shown_tx_choice seen.now packets.now)
-        (cons_option (shown_sent seen.now id) more)
-        ≡ cons_option result (filter_map (shown_tx_choice seen.now packets.now) more) }
+// How many packets are looked up together, so that the processor waits for all of them at once.
+const AHEAD: usize = 16;
+
+// What is looked up of a packet: its reply, if that was begun, and its flow number.
+#[derive(Clone, Copy)]
+struct Ahead {
+    sent: Option<Sent>,
+    flow: u32,
+}
+
+// Looks up the packets at this place and after it, and returns how many it looked up.
+fn look_up(
+    seen: &SeenList,
+    packets: &[Packet],
+    ids: &[PacketId],
+    first: usize,
+    ahead: &mut [Ahead; AHEAD],
+) -> usize
+    requires { first < length ids.now }
+    ensures some { 0 < result }
+    ensures ahead { AreAhead seen.now packets.now ids.now first result ahead.new }
 {
-    match shown_sent(seen, id) {
-        Some(sent) => shown_tx_choice(seen, packets, sent),
-        None => None,
+    let known = (ids.len() - first).min(AHEAD);
+    for k in 0..known {
+        let id = ids[first + k];
+        ahead[k] = Ahead {
+            sent: shown_sent(seen, id),
+            flow: flow_of(packets, id),
+        };
     }
+    known
 }
 
 // The replies of one application, and their transmit queue choices.
@@ -79,9 +100,19 @@ fn own_replies(
 {
     let mut replies = Vec::with_capacity(alloc, ids.len())?;
     let mut choices = Vec::with_capacity(alloc, ids.len())?;
-    for id in ids {
-        let sent = shown_sent(seen, *id);
-        let choice = choice_for(seen, packets, *id);
+    let mut ahead = [Ahead {
+        sent: None,
+        flow: 0,
+    }; AHEAD];
+    let mut first = 0;
+    let mut known = 0;
+    for x in 0..ids.len() {
+        if x - first >= known {
+            known = look_up(seen, packets, ids, x, &mut ahead);
+            first = x;
+        }
+        let Ahead { sent, flow } = ahead[x - first];
+        let choice = choice_with(seen, flow, ids[x]);
         if let Some(sent) = sent {
             replies.push(sent)?;
         }
