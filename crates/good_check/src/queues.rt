@@ -132,7 +132,7 @@ impl Case<'_> {
             ≡ is_asked_for self.now.given.now self.now.h.now self.now.plan.now.filters n m
             self.now.h.now.choices) }
     {
-        let mut set = PairSet::new(alloc);
+        let mut set = PairSet::make(alloc, self.plan.filters as usize)?;
         for choices in self.h.choices.as_slice() {
             self.note_filters(&mut set, choices)?;
         }

@@ -22,10 +22,14 @@ fn note_writes(set: &mut PairSet, writes: &[SockWrite]) -> Result<(), OutOfMemor
 }
 
 // The entries and processors of all writes.
-fn all_writes(alloc: Global, writes: &List<List<SockWrite>>) -> Result<PairSet, OutOfMemory>
+fn all_writes(
+    alloc: Global,
+    entries: usize,
+    writes: &List<List<SockWrite>>,
+) -> Result<PairSet, OutOfMemory>
     ensures { IfOk result (λ set. (n m : ℕ) → has_pair set n m ≡ was_written n m writes.now) }
 {
-    let mut set = PairSet::new(alloc);
+    let mut set = PairSet::make(alloc, entries)?;
     for list in writes.as_slice() {
         note_writes(&mut set, list.as_slice())?;
     }
@@ -91,7 +95,7 @@ impl Case<'_> {
         ensures no { IfOk result (λ r. WantsAreWritten (input_of self.now) self.now.h.now never
             → r ≡ true) }
     {
-        let set = all_writes(alloc, &self.h.writes)?;
+        let set = all_writes(alloc, self.settings.sock() as usize, &self.h.writes)?;
         Ok(self.all_are_wanted(&set))
     }
 }
