@@ -36,5 +36,6 @@ pub(crate) fn generated_packets(
     let key = Key::make(plan.key);
     let mut list = PacketList::make(alloc, &key, Kinds(plan.kinds), packets as usize)?;
     generate_frames(seed, packets, flows, &mut list)?;
-    Ok(list.into_packets())
+    let packets = list.into_packets()?;
+    Ok(packets)
 }

@@ -32,13 +32,15 @@ impl FlowNumbers {
         }
     }
 
-    /// The number of a flow: the one that it has, else the next one.
+    /// The number of a flow: the one that it has, else the next one. Where 2^32 flows have one, it
+    /// is out of memory.
     pub fn number_of(&mut self, flow: Flow) -> Result<u32, OutOfMemory>
-        requires few { flow_total self.old < 2 ^ 32 }
         ensures fits { FlowFits flow }
         ensures number { IfOk result (λ number. IsNumberOf self.old self.new flow number) }
     {
-        let next = (self.short.len() + self.long.len()) as u32;
+        let Ok(next) = u32::try_from(self.short.len() + self.long.len()) else {
+            return Err(OutOfMemory);
+        };
         match FlowKey::of(flow) {
             FlowKey::Short(key) => self.short.number_of(key, next),
             FlowKey::Long(key) => number_at(&mut self.long, key, next),

@@ -12,6 +12,7 @@ mod hop_answers;
 mod laws;
 mod note;
 mod number_maps;
+mod numbered_packets;
 mod packet_list;
 mod settings;
 mod setup;

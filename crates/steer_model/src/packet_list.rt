@@ -5,23 +5,26 @@ ghost use Rattle.steer_base.specs.declared.limits.TheConstants.{MAX_PACKETS};
 ghost use Rattle.pcap_reader.specs.Captures.{FrameIsWithin};
 ghost use Rattle.steer_model.specs.State.Ranges.{AreOfFlows};
 ghost use Rattle.steer_model.specs.Capture.Packets.{ArePackets, ArePacketsOfFrames};
-ghost use Rattle.steer_model.specs.Capture.PacketLists.{IsListOf, Takes};
+ghost use Rattle.steer_model.specs.Capture.PacketLists.{IsListOf, IsSettledListOf, Takes};
 
-use crate::flow_numbers::FlowNumbers;
+use crate::numbered_packets::{Dissected, NumberedPackets};
 use flow_dissector::dissect;
 use pcap_reader::{Capture, FrameSink};
 use std::alloc::Global;
-use std::snapshot::Snapshot;
 use steer_base::{OutOfMemory, Packet};
 use toeplitz::{Key, Kinds, TabledKey};
 
-/// The packets of frames that are taken one after another. Of each frame it keeps 16 bytes.
+/// How many flows wait before their numbers are looked up.
+const MOST_WAITING: usize = 16;
+
+/// The packets of frames that are taken one after another. Of each frame it keeps 16 bytes. The
+/// flows of the last frames are numbered together, at most sixteen at a time.
 #[derive(Drop)]
 pub struct PacketList {
     key: TabledKey,
     kinds: Kinds,
-    numbers: FlowNumbers,
-    packets: Vec<Packet>,
+    waiting: Vec<Dissected>,
+    numbered: NumberedPackets,
 }
 
 impl PacketList {
@@ -37,20 +40,43 @@ impl PacketList {
         Ok(PacketList {
             key: TabledKey::make(alloc, key)?,
             kinds,
-            numbers: FlowNumbers::new(alloc),
-            packets: Vec::with_capacity(alloc, room)?,
+            waiting: Vec::with_capacity(alloc, MOST_WAITING)?,
+            numbered: NumberedPackets::make(alloc, room)?,
         })
+    }
+
+    // Numbers the flows that wait.
+    fn number_waiting(&mut self) -> Result<(), OutOfMemory>
+        ensures { OnOk result ((key kinds : ℕ) (frames : List (List ℕ))
+            → IsListOf key kinds frames self.old → IsSettledListOf key kinds frames self.new) }
+    {
+        self.numbered.push_all(self.waiting.as_slice())?;
+        self.waiting.clear();
+        Ok(())
+    }
+
+    // Numbers the flows that wait, if they are as many as may.
+    fn make_room(&mut self) -> Result<(), OutOfMemory>
+        ensures { OnOk result ((key kinds : ℕ) (frames : List (List ℕ))
+            → IsListOf key kinds frames self.old → IsListOf key kinds frames self.new) }
+    {
+        if self.waiting.len() < MOST_WAITING {
+            return Ok(());
+        }
+        self.number_waiting()?;
+        Ok(())
     }
 
     /// The packets of all frames that were taken: of each the flow, the flow's hash by the key and
     /// the kinds, the length, and the number of the flow, from 0 in order of first appearance.
-    pub fn into_packets(self) -> Vec<Packet>
-        ensures list { (key kinds : ℕ) (frames : List (List ℕ)) → IsListOf key kinds frames self
-            → ArePacketsOfFrames key kinds frames result.items }
-        ensures flows { (key kinds : ℕ) (frames : List (List ℕ)) → IsListOf key kinds frames self
-            → AreOfFlows result.items }
+    pub fn into_packets(mut self) -> Result<Vec<Packet>, OutOfMemory>
+        ensures list { IfOk result (λ packets. (key kinds : ℕ) (frames : List (List ℕ))
+            → IsListOf key kinds frames self → ArePacketsOfFrames key kinds frames packets.items) }
+        ensures flows { IfOk result (λ packets. (key kinds : ℕ) (frames : List (List ℕ))
+            → IsListOf key kinds frames self → AreOfFlows packets.items) }
     {
-        self.packets
+        self.number_waiting()?;
+        Ok(self.numbered.into_packets())
     }
 }
 
@@ -59,13 +85,12 @@ impl FrameSink for PacketList {
 
     /// Appends the packet of a frame.
     fn take(&mut self, frame: &[u8]) -> Result<(), OutOfMemory> {
+        self.make_room()?;
         let flow = dissect(frame);
-        let flow_number = self.numbers.number_of(flow)?;
-        self.packets.push(Packet {
-            flow: Snapshot::of(&flow),
+        self.waiting.push(Dissected {
+            flow,
             hash: self.key.hash(&flow, self.kinds),
             len: frame.len() as u32,
-            flow_number,
         })?;
         Ok(())
     }
@@ -92,5 +117,6 @@ pub fn packets(
     for from in records {
         packets.take(&bytes[from.start..from.start + from.len as usize])?;
     }
-    Ok(packets.into_packets())
+    let packets = packets.into_packets()?;
+    Ok(packets)
 }

@@ -92,10 +92,10 @@ pub fn take_packets<D: Desk>(
         return Err(Ending::OutOfMemory);
     };
     match take_frames(alloc, name, desk, &mut packets) {
-        Ok(cut) => Ok(CapturedPackets {
-            packets: packets.into_packets(),
-            cut,
-        }),
+        Ok(cut) => match packets.into_packets() {
+            Ok(packets) => Ok(CapturedPackets { packets, cut }),
+            Err(OutOfMemory) => Err(Ending::OutOfMemory),
+        },
         Err(ending) => Err(ending),
     }
 }

@@ -7,8 +7,9 @@ use Rattle.history.specs.Lists.{packet_at}
 use Rattle.steer_base.specs.declared.packet.Packet.{Packet}
 use Rattle.steer_model.specs.Capture.FlowKeys.{FlowFits}
 use Rattle.steer_model.specs.Capture.FlowNumbers.{IsNumberOf}
-use Rattle.steer_model.specs.Capture.PacketLists.{HasNumbers, IsListOf, Takes}
+use Rattle.steer_model.specs.Capture.PacketLists.{HasNumbers, HasPackets, IsListOf, Takes}
 use Rattle.steer_model.specs.Capture.Packets.{AreNumbered, ArePacketsOfFrames, IsOfFrame}
+use Rattle.steer_model.specs.declared.numbered_packets.NumberedPackets.{NumberedPackets}
 use Rattle.steer_model.specs.declared.packet_list.PacketList.{PacketList}
 use Rattle.steer_model.proofs.Capture.FlowNumberLemmas.{IsLonger, has-more, longer}
 
@@ -53,21 +54,18 @@ packets-more key kinds frames frame packets x are of numbered =
               (sym (ap (λ k. packet_at (packets ++ x ∷ []) k) at ∙ l.last)) of))
         ]
 
--- a list of packets with the packet of one more frame
-pub list-more : (key kinds : ℕ) (frames : List (List ℕ)) (frame : List ℕ) (old new : PacketList)
-    (x : Packet) → IsListOf key kinds frames old
-    → new.key ≡ old.key → new.kinds.0 ≡ old.kinds.0
+-- the packets of frames and the numbers of their flows, with the packet of one more frame
+pub has-packets-more : (key kinds : ℕ) (frames : List (List ℕ)) (frame : List ℕ)
+    (old new : NumberedPackets) (x : Packet) → HasPackets key kinds frames old
     → new.packets.items ≡ old.packets.items ++ x ∷ []
     → IsOfFrame key kinds frame x → FlowFits x.flow.value
     → IsNumberOf old.numbers new.numbers x.flow.value x.flow_number
-    → IsListOf key kinds (frames ++ frame ∷ []) new
-list-more key kinds frames frame old new x is same_key same_kinds items of fits number =
-    let numbers = has-more old.numbers new.numbers old.packets.items x is.numbers fits number in
+    → HasPackets key kinds (frames ++ frame ∷ []) new
+has-packets-more key kinds frames frame old new x has items of fits number =
+    let numbers = has-more old.numbers new.numbers old.packets.items x has.numbers fits number in
     record {
-      key_is = same_key ∙ is.key_is;
-      kinds_are = same_kinds ∙ is.kinds_are;
       packets = subst (ArePacketsOfFrames key kinds (frames ++ frame ∷ [])) (sym items)
-          (packets-more key kinds frames frame old.packets.items x is.packets of
+          (packets-more key kinds frames frame old.packets.items x has.packets of
           numbers.numbered);
       numbers = subst (HasNumbers new.numbers) (sym items) numbers;
     }

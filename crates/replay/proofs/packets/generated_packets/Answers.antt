@@ -29,12 +29,12 @@ returns-clause-list c =
     c.a_generated_capture_has_its_frames.ensures seed flows n c.requires.few_packets in
     let taken = c.in_ok-generate_frames.ensures.frames in
     let list = takes-by key kinds _ frames _ c.in_ok-list.ensures taken in
-    let packets = c.into_packets.ensures.list key kinds frames list in
+    let packets = c.in_ok-packets.ensures.list key kinds frames list in
     subst (λ k. ArePackets k kinds (capture_bytes (packets_of seed flows n))
-    (capture_of (packets_of seed flows n)).records c.into_packets.result.items)
+    (capture_of (packets_of seed flows n)).records c.in_ok-packets.packets.items)
     c.make-key.ensures
     (packets-of-frames key kinds _ _ _
-    (subst (λ f. ArePacketsOfFrames key kinds f c.into_packets.result.items) (sym capture.1)
+    (subst (λ f. ArePacketsOfFrames key kinds f c.in_ok-packets.packets.items) (sym capture.1)
     packets)
     (within_result _ (Ok (capture_of (packets_of seed flows n))) capture.0))
 
@@ -48,5 +48,13 @@ returns-clause-few c =
     let frames = frames_of seed flows n in
     let taken = c.in_ok-generate_frames.ensures.frames in
     let list = takes-by key kinds _ frames _ c.in_ok-list.ensures taken in
-    let packets = c.into_packets.ensures.list key kinds frames list in
+    let packets = c.in_ok-packets.ensures.list key kinds frames list in
     omega (arith, packets.many, frames-many seed flows n, c.requires.few_packets)
+
+pub returns-clause-of_flows : goal.returns-clause-of_flows
+returns-clause-of_flows c =
+    let key = c.make-key.result in
+    let kinds = c.args.plan.now.kinds in
+    let frames = frames_of c.args.seed c.args.flows c.args.packets in
+    c.in_ok-packets.ensures.flows key kinds frames
+    (takes-by key kinds _ frames _ c.in_ok-list.ensures c.in_ok-generate_frames.ensures.frames)

@@ -51,11 +51,16 @@ returns-clause-list c =
     let bytes = c.args.bytes.now in
     let records = c.as_slice-records.result.now in
     let all : c.loop-from.from-index ≡ length records = omega arith in
-    let list = c.into_packets.ensures.list c.args.key.now c.args.kinds.0 _ c.loop-from.invariant in
+    let list =
+    c.in_ok-packets-2.ensures.list c.args.key.now c.args.kinds.0 _ c.loop-from.invariant in
     let frames = ap (frames_before bytes records) all ∙ frames-all bytes records
     ∙ ap (map (frame_of bytes)) c.as_slice-records.ensures in
     packets-of-records c.args.key.now c.args.kinds.0 bytes c.args.capture.now.records
-    c.into_packets.result.items
-    (subst (λ f. ArePacketsOfFrames c.args.key.now c.args.kinds.0 f c.into_packets.result.items)
+    c.in_ok-packets-2.packets.items
+    (subst (λ f. ArePacketsOfFrames c.args.key.now c.args.kinds.0 f c.in_ok-packets-2.packets.items)
     frames list)
     c.requires.within
+
+pub returns-clause-flows : goal.returns-clause-flows
+returns-clause-flows c =
+    c.in_ok-packets-2.ensures.flows c.args.key.now c.args.kinds.0 _ c.loop-from.invariant
