@@ -5,7 +5,7 @@ use crate::equal::{same, same_items};
 use crate::histories::replied;
 use history::{History, Via};
 use report_check::{ReportFault, is_report, read_report};
-use report_reader::{Fields, LaneSums, LastLine, read_parts};
+use report_reader::{Fields, InTurn, LaneSums, LastLine, read_parts};
 use std::alloc::Global;
 use std::process::Abort;
 use std::snapshot::Snapshot;
@@ -132,7 +132,7 @@ fn a_report_is_read_back(rt: HostRuntime) -> Result<(), Fail> {
 
 #[test]
 fn a_report_shows_its_parts(rt: HostRuntime) -> Result<(), Fail> {
-    let parts = read_parts(rt.alloc(), REPORT, 1)?;
+    let parts = read_parts(&InTurn, rt.alloc(), REPORT, 1)?;
     let plain = Choice {
         class: None,
         want: None,

@@ -7,6 +7,7 @@ mod reading;
 mod routing;
 mod showing;
 
-pub use printed::{ReportFault, read_report};
-pub use reading::is_report;
+pub use printed::{ReportFault, candidate, read_report};
+pub use reading::{is_report, is_written};
 pub use report_history::Printed;
+pub use report_reader::{InTurn, OnThreads, ReadsSections};

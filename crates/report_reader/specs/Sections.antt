@@ -1,6 +1,6 @@
 -- The sections of a report: rows of one kind, one after the other, each of which shows an item.
-use Rattle.std.specs.Prelude.{ℕ, ◌≡◌, ◌≢◌, ◌≤◌, ◌<◌, ◌^◌, List, [], ◌∷◌, ◌++◌, ⊤, codes, drop}
-use Rattle.std.specs.Prelude.{Option, Some, None, decimal, length}
+use Rattle.std.specs.Prelude.{ℕ, ◌≡◌, ◌≢◌, ◌≤◌, ◌<◌, ◌+◌, ◌*◌, ◌^◌, List, [], ◌∷◌, ◌++◌, ⊤}
+use Rattle.std.specs.Prelude.{codes, drop, Option, Some, None, decimal, length}
 use Rattle.history.specs.Ranges.{FitsIn}
 use Rattle.report.specs.Lines.{end_row}
 use Rattle.report.specs.Report.{numbered}
@@ -46,6 +46,15 @@ Reads {T} first least shows bytes at most found next =
     (items : List T) (rows rest : List Row) → AreShown first least shows items rows
     → length items ≤ most → IsOther first rest → drop at bytes ≡ text_of (rows ++ rest)
     → (found ≡ items) × (drop next bytes ≡ text_of rest)
+
+-- what was read of a section from a place on, where all of it is within the bytes, and where the
+-- next section begins
+pub record IsRead {T : Type 0} (first : List ℕ) (least : ℕ) (shows : T → List (List ℕ) → Type 0)
+    (bytes : List ℕ) (at most : ℕ) (found : List T) (next : ℕ) : Type 0 where
+  pub within : next ≤ length bytes
+  pub few : length found ≤ most
+  pub fit : length found * least + at ≤ next
+  pub reads : Reads first least shows bytes at most found next
 
 -- the length of each text has 64 bits
 abbrev pub HaveLengths : List (List ℕ) → Type 0

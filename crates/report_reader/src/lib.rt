@@ -1,6 +1,7 @@
 //! The sections of a report, read back without a test whether the bytes are one.
 #![tactic(auto)]
 
+mod beside;
 mod bodies;
 mod commands;
 mod ends;
@@ -19,6 +20,7 @@ mod slots;
 mod sums;
 mod values;
 
+pub use beside::{InTurn, OnThreads, ReadsSections};
 pub use bodies::read_texts;
 pub use commands::Commands;
 pub use fields::Fields;

@@ -2,11 +2,12 @@
 ghost use Rattle.std.specs.Prelude.{◌≤◌, IfOk, length};
 ghost use Rattle.report_reader.specs.Parts.{AreParts, FitInto};
 
+use crate::beside::ReadsSections;
 use crate::bodies::read_texts;
 use crate::commands::Commands;
 use crate::fields::Fields;
 use crate::last::{LastLine, read_last};
-use crate::packets::{Packets, Replies, SeenPacket, SeenReply};
+use crate::packets::{SeenPacket, SeenReply};
 use crate::sections::read_section;
 use crate::sums::{AppWrite, Cpus, LaneSums, Queues, Txs, Writes};
 use history::{Commanded, lines_fit};
@@ -38,8 +39,14 @@ pub struct Parts {
 }
 
 /// Reads the sections of a report with at most so many packets. Of bytes that are no report too,
-/// no more is kept than rows of a report would fit into them.
-pub fn read_parts(alloc: Global, bytes: &[u8], most: usize) -> Result<Parts, OutOfMemory>
+/// no more is kept than rows of a report would fit into them. `work` says whether the packets and
+/// the replies, nearly all of a long report, are read one after the other.
+pub fn read_parts<W: ReadsSections>(
+    work: &W,
+    alloc: Global,
+    bytes: &[u8],
+    most: usize,
+) -> Result<Parts, OutOfMemory>
     ensures parts { IfOk result (λ p. AreParts bytes.now most p) }
     ensures fit { IfOk result (λ p. FitInto (length bytes.now) p) }
     ensures few { IfOk result (λ p. length p.packets.items ≤ most) }
@@ -47,8 +54,7 @@ pub fn read_parts(alloc: Global, bytes: &[u8], most: usize) -> Result<Parts, Out
     lines_fit();
     let mut fields = Fields::make();
     let first = fields.read(bytes, 0);
-    let packets = read_section(alloc, bytes, first, most, &Packets)?;
-    let replies = read_section(alloc, bytes, packets.next, most, &Replies)?;
+    let (packets, replies) = work.packets_and_replies(alloc, bytes, first, most)?;
     let queues = read_section(alloc, bytes, replies.next, bytes.len(), &Queues)?;
     let cpus = read_section(alloc, bytes, queues.next, bytes.len(), &Cpus)?;
     let txs = read_section(alloc, bytes, cpus.next, bytes.len(), &Txs)?;

@@ -1,2 +1,3 @@
 pub mod VerdictLemmas
 pub mod ReplayLemmas
+pub mod JudgingLemmas

@@ -1,10 +1,12 @@
 -- What is said of bytes that are to be a report, for a plan and the packets of a capture.
-use Rattle.std.specs.Prelude.{ℕ, ◌≡◌, List, [], length}
+use Rattle.std.specs.Prelude.{ℕ, ◌≡◌, Bool, true, false, List, [], Option, Some, None, length}
+use Rattle.std.specs.Option.{ForSome}
 use Rattle.good_check.specs.Faults.{HasFirstFault, HasNoFault}
 use Rattle.history.specs.declared.history.History.{History}
 use Rattle.plan_reader.specs.Ranges.{commands_of}
 use Rattle.report.specs.Laws.{IsReportOf}
-use Rattle.report_check.specs.Reading.{IsNoReport}
+use Rattle.report.specs.Report.{report}
+use Rattle.report_check.specs.Reading.{IsCandidate, IsNoReport, IsOnlyReport}
 use Rattle.steer_base.specs.declared.command.Command.{Command}
 use Rattle.steer_model.specs.Good.Inputs.{Input}
 use Rattle.report_verdict.specs.declared.verdict.Verdict.{Verdict}
@@ -34,3 +36,25 @@ IsVerdict i bytes (verdict.Bad clause) =
 IsVerdict i bytes verdict.Good =
     (commands_in i ≡ [])
     × ((h : History) × (texts : List (List ℕ)) × IsReportFor i bytes h texts × HasNoFault i h)
+
+-- It is left to judge this history with these texts of taps: the plan has no commands, and if bytes
+-- are a report for an input, they are that of this one.
+pub record IsToJudge (i : Input) (bytes : List ℕ) (h : History) (texts : List (List ℕ))
+    : Type 0 where
+  pub commands : commands_in i ≡ []
+  pub candidate : IsCandidate i.packets (length i.plan.apps) i.plan.start h texts
+  pub only : IsOnlyReport i.packets (length i.plan.apps) i.plan.start h texts bytes
+
+-- Whether just these bytes are written of a history, and the first clause that it fails.
+pub record IsJudged (i : Input) (bytes : List ℕ) (h : History) (texts : List (List ℕ))
+    (written : Bool) (fault : Option ℕ) : Type 0 where
+  pub yes : written ≡ true → report i.packets (length i.plan.apps) h texts ≡ bytes
+  pub no : report i.packets (length i.plan.apps) h texts ≡ bytes → written ≡ true
+  pub some : ForSome fault (λ clause. HasFirstFault i h clause)
+  pub none : fault ≡ None → HasNoFault i h
+
+-- The verdict on such a history: whether bytes are its report, and the first clause that it fails.
+abbrev pub verdict_of : Bool → Option ℕ → Verdict
+verdict_of false fault = verdict.NotReport
+verdict_of true (Some clause) = verdict.Bad clause
+verdict_of true None = verdict.Good

@@ -14,13 +14,14 @@ use crate::ending::Ending;
 use crate::file::{take_packets, take_plan, take_report};
 use outside_io::{Desk, Sink, WriteFault};
 use report::LineBuf;
-use report_verdict::{Verdict, judge};
+use report_verdict::{JudgesHistories, Verdict, judge};
 use std::alloc::Global;
 use steer_base::OutOfMemory;
 
 /// Reads the plan, the capture and the report, takes all memory, and writes the verdict. The report
-/// is read in every case.
-pub fn check_file<D: Desk, K: Sink>(
+/// is read in every case. How the two halves of the judging are done is up to `work`.
+pub fn check_file<W: JudgesHistories, D: Desk, K: Sink>(
+    work: &W,
     alloc: Global,
     command: &CheckCommand,
     desk: &mut D,
@@ -47,7 +48,7 @@ pub fn check_file<D: Desk, K: Sink>(
         Ok(report) => report,
         Err(ending) => return ending,
     };
-    match judge(alloc, &plan, &captured.packets, captured.cut, &report) {
+    match judge(work, alloc, &plan, &captured.packets, captured.cut, &report) {
         Ok(verdict) => write_verdict(alloc, verdict, out),
         Err(OutOfMemory) => Ending::OutOfMemory,
     }

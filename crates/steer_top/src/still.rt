@@ -21,6 +21,7 @@ use crate::telling::tell;
 use crate::words::still_command;
 use outside_io::{Desk, Sink};
 use replay::{every_report_has_the_headline, every_run_has_the_headline};
+use report_verdict::{InTurn, JudgesHistories};
 use std::alloc::Global;
 use taps::Tap;
 
@@ -44,16 +45,40 @@ pub fn steer_still<D: Desk, K: Sink, E: Sink>(
     ensures desk_later { D.faults desk.old ≤ D.faults desk.new }
     ensures out_later { K.faults out.old ≤ K.faults out.new }
 {
+    steer_still_by(&InTurn, alloc, words, desk, out, err, taps)
+}
+
+/// The same, where `work` says how work is done that may be done on two threads.
+pub fn steer_still_by<W: JudgesHistories, D: Desk, K: Sink, E: Sink>(
+    work: &W,
+    alloc: Global,
+    words: &[String],
+    desk: &mut D,
+    out: &mut K,
+    err: &mut E,
+    taps: Vec<Box<dyn Tap>>,
+) -> u8
+    ensures call { IsAnswered (still_command_of words.now)
+        (course D.held D.asked D.faults desk.old desk.new K.faults K.written out.old out.new
+        (map text taps.items)) (TakesLine E.faults E.written err.old err.new) result }
+    ensures sent { result ≡ 0 → IsAtEnd (K.unsent out.new) }
+    ensures err_sent { SentOn (E.faults err.old) (E.faults err.new) (E.unsent err.new) }
+    ensures held { D.held desk.new ≡ D.held desk.old }
+    ensures told { GoesOnTelling (D.left desk.old) (D.left desk.new) }
+    ensures desk_later { D.faults desk.old ≤ D.faults desk.new }
+    ensures out_later { K.faults out.old ≤ K.faults out.new }
+{
     a_call_is_decided();
     every_report_has_the_headline();
     every_run_has_the_headline();
-    let ending = carry_out(alloc, words, desk, out, taps);
+    let ending = carry_out(work, alloc, words, desk, out, taps);
     tell(err, &ending);
     status(&ending)
 }
 
 // Carries out the command that the words are, and says how it ended.
-fn carry_out<D: Desk, K: Sink>(
+fn carry_out<W: JudgesHistories, D: Desk, K: Sink>(
+    work: &W,
     alloc: Global,
     words: &[String],
     desk: &mut D,
@@ -73,14 +98,15 @@ fn carry_out<D: Desk, K: Sink>(
     match still_command(words) {
         None => Ending::Usage,
         Some(command) => {
-            let ending = perform(alloc, &command, desk, out, taps);
+            let ending = perform(work, alloc, &command, desk, out, taps);
             flush(ending, out)
         }
     }
 }
 
 // Carries out the command, up to the flush of its text.
-fn perform<D: Desk, K: Sink>(
+fn perform<W: JudgesHistories, D: Desk, K: Sink>(
+    work: &W,
     alloc: Global,
     command: &StillCommand,
     desk: &mut D,
@@ -100,7 +126,7 @@ fn perform<D: Desk, K: Sink>(
         StillCommand::Hash(hash) => hash_file(alloc, hash, desk, out),
         StillCommand::Replay(replay) => replay_file(alloc, replay, desk, out, taps),
         StillCommand::Gen(input) => gen_input(alloc, input, out),
-        StillCommand::Check(check) => check_file(alloc, check, desk, out),
+        StillCommand::Check(check) => check_file(work, alloc, check, desk, out),
         StillCommand::Place(place) => place_file(alloc, place, desk, out),
     }
 }

@@ -7,9 +7,10 @@ ghost use Rattle.steer_top.specs.Endings.{SentOn};
 ghost use Rattle.steer_top.specs.Words.{command_of};
 
 use crate::live::steer_live;
-use crate::still::steer_still;
+use crate::still::steer_still_by;
 use crate::words::means_run;
 use outside_io::{Desk, Sink};
+use report_verdict::OnThreads;
 use run_words::Pace;
 use std::alloc::Global;
 use std::sync::Wait;
@@ -19,8 +20,9 @@ use taps::Tap;
 /// Carries out the command that `words` are, without the program's name, and returns the exit
 /// status: 0 if all was done, written and sent on; 2 if the words are no command; 3 if a file has
 /// no plan or no rules; 4 if one is no capture; 5 or 6 if the desk or the sink of the text failed;
-/// 7 if memory ran out; and 8 if a file is too long. Only for `run` are threads made, of `rt`, and
-/// `pace` called; every other command returns always.
+/// 7 if memory ran out; and 8 if a file is too long. Threads are made of `rt` for `run`, and for
+/// `check` one that helps for a while. `pace` is called for `run` alone; every other command
+/// returns always.
 ///
 /// All memory is taken before the first byte goes to `out`, which is flushed once, after the whole
 /// text. `err` takes one line for every status but 0, and is flushed at the end. A replay and a run
@@ -55,6 +57,6 @@ pub fn steer<R: Threads + Wait + Sync, D: Desk, K: Sink, E: Sink, P: Pace + Sync
     if means_run(words) {
         steer_live(rt, alloc, words, desk, out, err, taps, pace)
     } else {
-        steer_still(alloc, words, desk, out, err, taps)
+        steer_still_by(&OnThreads(rt), alloc, words, desk, out, err, taps)
     }
 }

@@ -1,22 +1,23 @@
-use Rattle.std.proofs.Common.{◌≡◌, ◌∙◌, arith, false, subst, sym, true}
-use Rattle.report.specs.Laws.{IsReportOf}
-use Rattle.report_check.proofs.ReadLemmas.{no-report, only-report}
+use Rattle.std.proofs.Common.{◌≡◌, ◌∙◌, IfSome, false, subst, sym, true}
+use Rattle.report.specs.Report.{report}
+use Rattle.report_check.proofs.ReadLemmas.{no-report}
+use Rattle.report_check.specs.Reading.{IsOnlyReport}
 use Rattle.report_check.proofs.printed.read_report.Goals as goal
+use Rattle.report_history.specs.declared.printed.Printed.{Printed}
 
--- src/printed.rt:34:1
 pub returns-else-branch-clause-none : goal.returns-else-branch-clause-none
 returns-else-branch-clause-none c = λ e.
     let packets = c.args.packets.now in
     let apps = c.args.apps in
     let start = c.args.start in
     let bytes = c.args.bytes.now in
-    let k = c.in_ok-printed.printed.history in
-    let texts = c.in_ok-printed.printed.texts.items in
+    let k = c.in-Some.printed.history in
+    let texts = c.in-Some.printed.texts.items in
     no-report packets apps start bytes k texts
-    (only-report packets apps start bytes k texts c.in_ok-parts.parts c.requires.apps
-    (omega (arith, c.ranges.apps.fits)) c.requires.few (omega arith) c.in_ok-parts.ensures.parts
+    (subst (λ o. IfSome o (λ (p : Printed).
+    IsOnlyReport packets apps start p.history p.texts.items bytes)) c.in-Some.is
     c.in_ok-printed.ensures.only)
     (λ r.
-    let is = c.in_ok-is_report.ensures.no
-    (subst (λ shown. IsReportOf packets apps start k shown bytes) (sym c.deref.ensures.value) r) in
+    let is = c.in_ok-is_written.ensures.no
+    (subst (λ shown. report packets apps k shown ≡ bytes) (sym c.deref.ensures.value) r.text) in
     let f : true ≡ false = sym is ∙ c.if-branch.false in cc)

@@ -6,4 +6,4 @@ returns-then-means_run-clause-call g c =
 
 pub returns-else-means_run-clause-call : goal.returns-else-means_run-clause-call
 returns-else-means_run-clause-call g c =
-    rw (c.means_run.ensures.still c.if-means_run.false) at c.steer_still.ensures.call
+    rw (c.means_run.ensures.still c.if-means_run.false) at c.steer_still_by.ensures.call

@@ -1,7 +1,7 @@
 use Rattle.std.proofs.Common.{◌∙◌, sym}
 use Rattle.steer_top.proofs.Answered.{answered}
 use Rattle.steer_top.proofs.Statuses.{done_of}
-use Rattle.steer_top.proofs.still.steer_still.Goals as goal
+use Rattle.steer_top.proofs.still.steer_still_by.Goals as goal
 
 pub returns-clause-call : goal.returns-clause-call
 returns-clause-call g c =
