@@ -7,7 +7,7 @@ use Rattle.board_api.specs.Seats.{BoardSeatView}
 use Rattle.board_api.specs.Views.{BoardView}
 use Rattle.run_words.specs.Numbers.{word_count}
 use Rattle.run_workers.specs.Hands.Pollers.{HasQueueSettings}
-use Rattle.run_workers.specs.Hands.Servers.{HasTransmitSettings, IsServer}
+use Rattle.run_workers.specs.Hands.Servers.{HasTransmitSettings, IsServer, KeepsMaps}
 use Rattle.run_workers.specs.declared.server.Server.{Server}
 use Rattle.run_words.specs.declared.shared.Shared.{Shared}
 use Rattle.hand_tests.specs.Benches.{Rests, opened_by}
@@ -34,7 +34,8 @@ pub record IsClerk (receive transmit : BoardSizes) (shared : Shared) (hint : Sea
   pub reply_room : server.sent.room ≡ transmit.room
   pub is : IsServer shared.given server
 
--- The application may take and reply, and its seats and the closers' rest.
+-- The application may take and reply, its seats and the closers' rest, and it keeps maps that its
+-- seat read.
 pub record IsOffice (shared : Shared) (hint : SeatView HintStep) (server : Server)
     (receive : BoardView) (receive_seat receive_closer : BoardSeatView)
     (transmit : BoardView) (transmit_seat transmit_closer : BoardSeatView) (openings : ℕ)
@@ -42,3 +43,4 @@ pub record IsOffice (shared : Shared) (hint : SeatView HintStep) (server : Serve
   pub clerk : IsClerk receive.sizes transmit.sizes shared hint server
   pub takes : IsDesk 2 receive receive_seat receive_closer openings
   pub replies : IsDesk 0 transmit transmit_seat transmit_closer openings
+  pub kept : KeepsMaps shared.given server.kept transmit_seat.steps

@@ -1,5 +1,5 @@
 //! An application at its two boards, with packets in its inbox.
-ghost use Rattle.std.specs.Prelude.{◌≡◌, ◌≤◌, IfOk, length};
+ghost use Rattle.std.specs.Prelude.{◌≡◌, ◌≤◌, IfOk, None, length};
 ghost use Rattle.steer_base.specs.declared.limits.TheConstants.{MAX_PACKETS};
 ghost use Rattle.run_workers.specs.Hands.Servers.{HasTransmitSettings, IsServer};
 ghost use Rattle.hand_tests.specs.Benches.{IsWorker};
@@ -108,6 +108,7 @@ fn server_of(alloc: Global, plan: &Plan, given: &Given) -> Result<Server, OutOfM
     ensures app { IfOk result (λ s. s.app ≡ 0) }
     ensures room { IfOk result (λ s. s.sent.room ≡ length given.now.packets) }
     ensures is { IfOk result (λ s. IsServer given.now s) }
+    ensures kept { IfOk result (λ s. s.kept.visit ≡ None) }
 {
     given.ranges();
     let room = given.packet_count();

@@ -25,6 +25,8 @@ use Rattle.steer_model.specs.State.Setup.{flow_number_of}
 use Rattle.run_words.specs.Values.{cpus_in, queues_in}
 use Rattle.run_words.specs.declared.hint_word.HintWord.TheVariants as hint
 use Rattle.run_words.specs.declared.hint_word.TheConstants.{STAND_WORDS}
+use Rattle.board_api.specs.OwnSteps.{ReadsIn}
+use Rattle.board_api.specs.StepWords.{openings_in}
 use Rattle.run_workers.specs.Hands.Pollers.{LoadedHead}
 use Rattle.run_workers.specs.Hands.Servers.{HasFlowsBelow, queue_by, queue_if}
 use Rattle.run_workers.specs.declared.server.Server.{Server}
@@ -257,13 +259,13 @@ since_none zero = refl
 since_none (suc k) = since_none k
 
 all_at : (rows start : ℕ) (setup : Setup) (packets app home : ℕ) (arrivals : List Arrival)
-    (hints : List HintStep) (newer : List RepliedTurn) (r : RepliedTurn)
+    (hints : List HintStep) (tx : List BoardStep) (newer : List RepliedTurn) (r : RepliedTurn)
     (older : List RepliedTurn)
-    → EachReplied rows start setup packets app home arrivals hints (newer ++ r ∷ older)
-    → IsReplied rows start setup packets app home arrivals hints older r
-all_at rows start setup packets app home arrivals hints [] r older all = all.0
-all_at rows start setup packets app home arrivals hints (x ∷ newer) r older all =
-    all_at rows start setup packets app home arrivals hints newer r older all.1
+    → EachReplied rows start setup packets app home arrivals hints tx (newer ++ r ∷ older)
+    → IsReplied rows start setup packets app home arrivals hints tx older r
+all_at rows start setup packets app home arrivals hints tx [] r older all = all.0
+all_at rows start setup packets app home arrivals hints tx (x ∷ newer) r older all =
+    all_at rows start setup packets app home arrivals hints tx newer r older all.1
 
 -- the table after turns is the one that was told of all of them
 table_told : (rows start : ℕ) (rs : List RepliedTurn)
@@ -280,7 +282,7 @@ table_told rows start (r ∷ rs) =
 module _ (i : Input) (about : BoardSizes) (own : List BoardStep) (arrivals : List Arrival)
     (rx : List BoardStep) (hints : List HintStep) (t : Execution) (rows : ℕ) (s : Server)
     (noted : List (StepBy Note))
-    (x : IsReplying (setup_in i) rows about.start arrivals s (t.turns (t.seat s.app)) noted rx
+    (x : IsReplying (setup_in i) rows about.start arrivals s (t.turns (t.seat s.app)) noted rx own
     hints)
     (below : HasFlowsBelow (setup_in i) s.sent.room rows) where
   abbrev plan_setup : Setup
@@ -301,10 +303,10 @@ module _ (i : Input) (about : BoardSizes) (own : List BoardStep) (arrivals : Lis
 
   module _ (a : List RepliedTurn) (r : RepliedTurn) (b : List RepliedTurn)
       (are : x.replied ≡ a ++ r ∷ b) where
-    abbrev y : IsReplied rows about.start plan_setup s.sent.room s.app s.home arrivals hints b r
-    y = all_at rows about.start plan_setup s.sent.room s.app s.home arrivals hints a r b
+    abbrev y : IsReplied rows about.start plan_setup s.sent.room s.app s.home arrivals hints own b r
+    y = all_at rows about.start plan_setup s.sent.room s.app s.home arrivals hints own a r b
         (subst (λ zs. EachReplied rows about.start plan_setup s.sent.room s.app s.home arrivals
-        hints zs) are x.are)
+        hints own zs) are x.are)
 
     seen_is : (word : ℕ) → seen (length b) word ≡ r.words word
     seen_is word =
@@ -390,11 +392,11 @@ module _ (i : Input) (about : BoardSizes) (own : List BoardStep) (arrivals : Lis
 
     knows_all : KnowsMaps own txs r.turn (seen (length b))
     knows_all word less =
-        inl (subst (λ n. Contains r.turn.early (Gate (Read word n))) (sym (seen_is word))
+        inr (subst (λ n. ReadsIn own (openings_in r.turn.word) word n) (sym (seen_is word))
         (elim (cases_lt word txs) [
           | inl low ↦ y.cpu_reads word low
           | inr high ↦
-              subst (λ w. Contains r.turn.early (Gate (Read w (r.words w))))
+              subst (λ w. ReadsIn own (openings_in r.turn.word) w (r.words w))
               (again word txs high) (y.queue_reads (word - txs) (omega (arith, high, less)))
         ]))
       where
@@ -445,12 +447,13 @@ module _ (i : Input) (h : History) (rx_own : ℕ → List BoardStep) (rx_seat : 
     (seats : List (SeatView HintStep)) (seat : SeatView HintStep) (t : Execution) (rows : ℕ)
     (s : Server) (noted : List (StepBy Note))
     (x : IsReplying (setup_in i) rows about.start h.arrivals s (t.turns (t.seat s.app)) noted
-    (rx_own rx_seat) seat.steps) where
+    (rx_own rx_seat) own seat.steps) where
   each : (P : Sent → Type 0) (rs : List RepliedTurn)
       → ((r : RepliedTurn) (b : List RepliedTurn)
-      → IsReplied rows about.start (setup_in i) s.sent.room s.app s.home h.arrivals seat.steps b r
-      → P r.sent)
-      → EachReplied rows about.start (setup_in i) s.sent.room s.app s.home h.arrivals seat.steps rs
+      → IsReplied rows about.start (setup_in i) s.sent.room s.app s.home h.arrivals seat.steps own b
+      r → P r.sent)
+      → EachReplied rows about.start (setup_in i) s.sent.room s.app s.home h.arrivals seat.steps own
+      rs
       → All P (replies_in rs)
   each P [] give all = All-nil P
   each P (r ∷ rs) give all =

@@ -49,24 +49,26 @@ module _ (law : ApplicationsAreCoupled) (i : Input) (h : History) (t : StageView
         let same = app-is i h t crew turns rx_own own e a p in
         let j = e.journals a less p in
         let rx_is = e.rx_lists (a % W) p.by p.worker in
+        let tx_is = e.lists (a % W) p.by p.worker in
         let x : IsReplying (setup_in i) y.is.rows t.tx.sizes.start h.arrivals p.actor
         (turns (p.actor.app % W)).replied (turns (p.actor.app % W)).noted (rx_own (a % W))
-        p.by.seats.hint.steps =
+        (own (p.actor.app % W)) p.by.seats.hint.steps =
         subst (λ g. IsReplying g y.is.rows t.tx.sizes.start h.arrivals p.actor
         (turns (p.actor.app % W)).replied (turns (p.actor.app % W)).noted (rx_own (a % W))
-        p.by.seats.hint.steps) e.given
+        (own (p.actor.app % W)) p.by.seats.hint.steps) e.given
         (subst (λ late. IsReplying t.shared.given y.is.rows t.tx.sizes.start late p.actor
         (turns (p.actor.app % W)).replied (turns (p.actor.app % W)).noted (rx_own (a % W))
-        p.by.seats.hint.steps) e.late
+        (own (p.actor.app % W)) p.by.seats.hint.steps) e.late
         (subst (λ n. IsReplying t.shared.given y.is.rows t.tx.sizes.start t.late p.actor
-        (turns (n % W)).replied (turns (n % W)).noted (rx_own (a % W)) p.by.seats.hint.steps)
-        (sym same)
+        (turns (n % W)).replied (turns (n % W)).noted (rx_own (a % W)) (own (n % W))
+        p.by.seats.hint.steps) (sym same)
         (subst (λ ts. IsReplying t.shared.given y.is.rows t.tx.sizes.start t.late p.actor ts
-        (turns (a % W)).noted (rx_own (a % W)) p.by.seats.hint.steps) y.replied
+        (turns (a % W)).noted (rx_own (a % W)) (own (a % W)) p.by.seats.hint.steps) y.replied
         (subst (λ ns. IsReplying t.shared.given y.is.rows t.tx.sizes.start t.late p.actor
-        y.is.replies ns (rx_own (a % W)) p.by.seats.hint.steps) y.noted
-        (subst (λ ds. IsReplying t.shared.given y.is.rows t.tx.sizes.start t.late p.actor
-        y.is.replies y.is.noted ds p.by.seats.hint.steps) (sym rx_is) k.keeps))))) in
+        y.is.replies ns (rx_own (a % W)) (own (a % W)) p.by.seats.hint.steps) y.noted
+        (subst (λ (ds : List BoardStep × List BoardStep). IsReplying t.shared.given y.is.rows
+        t.tx.sizes.start t.late p.actor y.is.replies y.is.noted ds.0 ds.1 p.by.seats.hint.steps)
+        (λ k'. (sym rx_is k', sym tx_is k')) k.keeps))))) in
         let flows : HasFlowsBelow (setup_in i) p.actor.sent.room y.is.rows =
         subst (λ g. HasFlowsBelow g p.actor.sent.room y.is.rows) e.given
         (subst (λ n. HasFlowsBelow t.shared.given n y.is.rows) (sym k.room) y.is.flows) in

@@ -15,9 +15,9 @@ use Rattle.run_crew.proofs.ExecutionLemmas.{seat-of, turns-of-board}
 -- ---- each choice is for the packet of its reply
 
 module _ (rows start : ℕ) (given : Setup) (packets app home : ℕ) (arrivals : List Arrival)
-    (hints : List HintStep) where
+    (hints : List HintStep) (tx : List BoardStep) where
   ids-same : (rs : List RepliedTurn)
-      → EachReplied rows start given packets app home arrivals hints rs
+      → EachReplied rows start given packets app home arrivals hints tx rs
       → map (λ (c : Chosen). c.id) (choices_in (reply_turns rs))
       ≡ map (λ (s : Sent). s.id) (replies_in rs)
   ids-same [] each = refl
@@ -35,12 +35,12 @@ module _ (rows start : ℕ) (given : Setup) (packets app home : ℕ) (arrivals :
           ap (λ zs. zs ++ x ∷ []) same ∙ ap (λ z. ys ++ z ∷ []) is_same
 
 pub replies-chosen : (given : Setup) (rows start : ℕ) (arrivals : List Arrival) (s : Server)
-    (turns : List (StepBy Turn)) (noted : List (StepBy Note)) (rx : List BoardStep)
-    (hints : List HintStep) → IsReplying given rows start arrivals s turns noted rx hints
+    (turns : List (StepBy Turn)) (noted : List (StepBy Note)) (rx tx : List BoardStep)
+    (hints : List HintStep) → IsReplying given rows start arrivals s turns noted rx tx hints
     → map (λ (c : Chosen). c.id) s.choices.items ≡ map (λ (r : Sent). r.id) s.sent.items
-replies-chosen given rows start arrivals s turns noted rx hints x =
+replies-chosen given rows start arrivals s turns noted rx tx hints x =
     ap (map (λ (c : Chosen). c.id)) (x.choices ∙ ap choices_in (sym x.own))
-    ∙ (ids-same rows start given s.sent.room s.app s.home arrivals hints x.replied x.are
+    ∙ (ids-same rows start given s.sent.room s.app s.home arrivals hints tx x.replied x.are
     ∙ sym (ap (map (λ (r : Sent). r.id)) x.replies))
 
 module _ (i : Input) (h : History) (t : StageView) (crew : List Seated) (turns : ℕ → SeatTurns)
@@ -105,7 +105,8 @@ module _ (i : Input) (h : History) (t : StageView) (crew : List Seated) (turns :
           let j = e.journals a less p in
           ap (map (λ (c : Chosen). c.id)) j.choices
           ∙ (replies-chosen t.shared.given y.is.rows t.tx.sizes.start t.late p.actor y.is.replies
-          y.is.noted p.by.seats.rx.steps p.by.seats.hint.steps (keeps-server a p).keeps
+          y.is.noted p.by.seats.rx.steps p.by.seats.tx.steps p.by.seats.hint.steps
+          (keeps-server a p).keeps
           ∙ sym (ap (map (λ (s : Sent). s.id)) j.sent))
       at (inr more) =
           let chosen = e.choice_count in

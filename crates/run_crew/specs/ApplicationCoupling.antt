@@ -97,7 +97,7 @@ ApplicationsAreCoupled =
     (seat : SeatView HintStep) (t : Execution) (rows : ℕ) (s : Server)
     (noted : List (StepBy Note))
     (x : IsReplying (setup_in i) rows about.start h.arrivals s (t.turns (t.seat s.app)) noted
-    (rx_own rx_seat) seat.steps)
+    (rx_own rx_seat) own seat.steps)
     → AllArrived i h → HasFlowsBelow (setup_in i) s.sent.room rows
     → slice_get i.plan.apps s.app ≡ Some s.home → AreShared c → Contains seats seat
     → s.hand ≡ None

@@ -1,6 +1,8 @@
 -- A new worker, and one that knows the arrivals.
 use Rattle.std.proofs.lemmas.List.Elements.{All-nil}
 use Rattle.run_words.specs.declared.shared.Shared.{Shared}
+use Rattle.run_workers.specs.Hands.Servers.{HasMaps}
+use Rattle.run_workers.proofs.Names.{Option, IfSome}
 use Rattle.run_workers.proofs.Names.{◌≡◌, ℕ, List, [], None, refl, sym, subst, length, StepBy}
 use Rattle.run_workers.proofs.Names.{Arrival, HintStep, none-some, lane_steps, holding, idle}
 use Rattle.run_workers.proofs.Names.{out_holding, phase, BoardSizes, HasOpen, IsOutside}
@@ -53,8 +55,10 @@ server_begins : (t : StageView) (s : Seats) (rows k : ℕ) (v : Server)
     → IsNewServer t s.tx.number rows k v → KeepsServer t s rows [] [] k v
 server_begins t s rows k v x =
     assumption (
-    servers_begin t.shared.given rows t.tx.sizes.start t.late v [] [] s.rx.steps s.hint.steps
-    x.hand x.table x.sent x.choices x.writes refl refl)
+    subst (λ (visit : Option ℕ). IfSome visit (λ (n : ℕ). HasMaps t.shared.given t.shared.given.txs
+    v.kept.maps s.tx.steps n)) (sym x.kept) tt,
+    servers_begin t.shared.given rows t.tx.sizes.start t.late v [] [] s.rx.steps s.tx.steps
+    s.hint.steps x.hand x.table x.sent x.choices x.writes refl refl)
 
 pub workers_begin : WorkersBegin
 workers_begin t w s x =
@@ -108,7 +112,7 @@ module _ (rx tx : BoardView) (shared : Shared) (arrivals : List Arrival) (s : Se
   later_server rows replies noted k v x =
       assumption (
       arrivals_come shared.given rows tx.sizes.start arrivals v replies noted s.rx.steps
-      s.hint.steps x.keeps)
+      s.tx.steps s.hint.steps x.keeps)
 
 pub arrivals_become_known : ArrivalsBecomeKnown
 arrivals_become_known rx tx shared arrivals w s x =

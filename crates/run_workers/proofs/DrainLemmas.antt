@@ -74,7 +74,8 @@ module _ (t : StageView) (w v : Worker) (s r : Seats)
         v.servers.items (KeepsServer t s x.rows x.replies x.noted)
         (KeepsServer t r x.rows x.replies x.noted) x.replies i d e ships there serves is lane exit
         start (transmitted t w v s r x) (ap length servers)
-        (servers_stay t w v s r x hint_grow servers tx.number (seat_stays s.rx r.rx rx).steps)
+        (servers_stay t w v s r x hint_grow servers tx.number (seat_stays s.rx r.rx rx).steps
+        tx.steps)
 
     pub ship_goes_on : GoesOn t w v s r
     ship_goes_on =

@@ -2,6 +2,7 @@ pub mod ChoiceLemmas
 pub mod DeltaLemmas
 pub mod DrainLemmas
 pub mod KeptLemmas
+pub mod MapLemmas
 pub mod StopLemmas
 pub mod PollerLemmas
 pub mod PutLemmas

@@ -1,5 +1,6 @@
 -- What a worker keeps at the one board, at the other, and of its stores: what it keeps all in all,
 -- and what stays while it works elsewhere.
+use Rattle.run_workers.proofs.Names.{[]}
 use Rattle.run_workers.proofs.Names.{◌≡◌, ℕ, List, All, refl, sym, ap, subst, ◌∙◌, length, StepBy}
 use Rattle.run_workers.proofs.Names.{SeatView, HintStep, HasOpen, IsOutside, BoardSeatView}
 use Rattle.run_workers.proofs.Names.{BoardView, Explained, Turn, Setup, no_lane, IsDrain, Drain}
@@ -144,13 +145,13 @@ module _ (t : StageView) (w v : Worker) (s r : Seats) (x : IsWorking t w s) wher
         refl hints kept) x.pollers
 
     pub servers_stay : v.servers.items ≡ w.servers.items → r.tx.number ≡ s.tx.number
-        → Grows s.rx.steps r.rx.steps
+        → Grows s.rx.steps r.rx.steps → Grows s.tx.steps r.tx.steps
         → Each (KeepsServer t r x.rows x.replies x.noted) v.servers.items
-    servers_stay same number steps =
+    servers_stay same number steps tx_steps =
         each_more (KeepsServer t r x.rows x.replies x.noted)
         (KeepsServer t s x.rows x.replies x.noted) w.servers.items v.servers.items same
         (λ k u kept. server_stays t s r x.rows x.replies x.replies x.noted x.noted k u number refl
-        refl steps hints kept) x.servers
+        refl steps tx_steps hints kept) x.servers
 
     -- ---- the board that is left alone
 
@@ -169,7 +170,8 @@ module _ (t : StageView) (w v : Worker) (s r : Seats) (x : IsWorking t w s) wher
         board_stays t.tx t.shared.given Port s.tx r.tx w.ships.items v.ships.items
         w.servers.items v.servers.items (KeepsServer t s x.rows x.replies x.noted)
         (KeepsServer t r x.rows x.replies x.noted) x.replies ships (ap length servers)
-        (servers_stay servers (ap (λ (z : BoardSeatView). z.number) tx) steps) transmitted tx
+        (servers_stay servers (ap (λ (z : BoardSeatView). z.number) tx) steps
+        ([], ap (λ (z : BoardSeatView). z.steps) tx)) transmitted tx
 
   -- ---- what was stored
 

@@ -6,6 +6,7 @@ use Rattle.run_workers.proofs.Names.{StaysApplication, IsServer, RepliesOrKeeps,
 use Rattle.run_workers.proofs.Names.{Grows, KeepsServer, actor_at, StageView, GoesOn, HasHomes}
 use Rattle.run_workers.proofs.Names.{IsWorking, Seats, Worker}
 use Rattle.run_workers.proofs.Hands.ServerLaws.{applications_leave_drains, applications_stay}
+use Rattle.run_workers.specs.Hands.Servers.{KeepsMaps}
 use Rattle.run_workers.specs.Records.Replying.{IsReplying}
 use Rattle.run_workers.specs.Records.ReplyingLaws.{RepliesOn}
 use Rattle.run_workers.proofs.Records.AddedLemmas.{calls_add_steps}
@@ -26,7 +27,8 @@ module _ (t : StageView) (w v : Worker) (s r : Seats) (i : ℕ) (y u : Server) (
     (ships : v.ships.items ≡ w.ships.items) (rx : r.rx ≡ s.rx)
     (there : slice_get w.servers.items i ≡ Some y) (x : IsWorking t w s)
     (replies : RepliesOrKeeps t.shared.given t.late y u s.tx r.tx s.hint r.hint sent)
-    (is : IsServer t.shared.given u) (outside : IsOutside r.tx.steps) (gate : HasOpen r.tx.steps)
+    (is : IsServer t.shared.given u) (maps : KeepsMaps t.shared.given u.kept r.tx.steps)
+    (outside : IsOutside r.tx.steps) (gate : HasOpen r.tx.steps)
   where
     abbrev given : Setup
     given = t.shared.given
@@ -62,8 +64,9 @@ module _ (t : StageView) (w v : Worker) (s r : Seats) (i : ℕ) (y u : Server) (
           room = stay.room ∙ was.room;
           start = stay.start ∙ was.start;
           is = is;
+          maps = maps;
           keeps = subst (λ (z : BoardSeatView). IsReplying given x.rows t.tx.sizes.start t.late u
-              on.more x.noted z.steps r.hint.steps) (sym rx) on.keeps;
+              on.more x.noted z.steps r.tx.steps r.hint.steps) (sym rx) on.keeps;
         }
 
     other_server : (k : ℕ) (z : Server) → k ≢ i → KeepsServer t s x.rows x.replies x.noted k z
@@ -72,7 +75,7 @@ module _ (t : StageView) (w v : Worker) (s r : Seats) (i : ℕ) (y u : Server) (
         server_stays t s r x.rows x.replies on.more x.noted x.noted k z stay.number
         (others_stay y.app z.app x.replies on.more
         (actors_differ t.tx.sizes s.tx.number i k y.app z.app was.own kept.own apart) on.grow)
-        refl rx_grow hint_grow kept
+        refl rx_grow tx_grow hint_grow kept
 
     answered : KeepsTransmit t v r x.rows on.more x.noted
     answered =

@@ -4,6 +4,7 @@ use Rattle.run_workers.proofs.Names.{◌≡◌, ℕ, ◌<◌, List, ap, sym, sub
 use Rattle.run_workers.proofs.Names.{BoardSizes, BoardSeatView, Turn, Setup, IsDrain, Drain, Exit}
 use Rattle.run_workers.proofs.Names.{Poller, Server, Grows, Mark, Note, KeepsDrain, KeepsPoller}
 use Rattle.run_workers.proofs.Names.{KeepsServer, actor_at, StageView, Seats}
+use Rattle.run_workers.proofs.Hands.MapLemmas.{maps_later}
 use Rattle.run_workers.proofs.Records.PollingLemmas.{pollers_stay}
 use Rattle.run_workers.proofs.Records.ReplyingLemmas.{servers_stay}
 
@@ -24,13 +25,17 @@ module _ (t : StageView) (s r : Seats) where
       (noted more_notes : List (StepBy Note)) (k : ℕ) (v : Server) → r.tx.number ≡ s.tx.number
       → steps_of v.app more ≡ steps_of v.app replies
       → steps_of v.app more_notes ≡ steps_of v.app noted
-      → Grows s.rx.steps r.rx.steps → Grows s.hint.steps r.hint.steps
+      → Grows s.rx.steps r.rx.steps → Grows s.tx.steps r.tx.steps
+      → Grows s.hint.steps r.hint.steps
       → KeepsServer t s rows replies noted k v → KeepsServer t r rows more more_notes k v
-  server_stays rows replies more noted more_notes k v number same same_notes steps hints x =
+  server_stays rows replies more noted more_notes k v number same same_notes steps tx_steps hints
+      x =
       assumption (
         x.own ∙ ap (λ n. actor_at t.tx.sizes n k) (sym number),
+        maps_later s.tx.steps r.tx.steps tx_steps t.shared.given v.kept x.maps,
         servers_stay t.shared.given rows t.tx.sizes.start t.late v replies more noted more_notes
-            s.rx.steps r.rx.steps s.hint.steps r.hint.steps same same_notes steps hints x.keeps,
+            s.rx.steps r.rx.steps s.tx.steps r.tx.steps s.hint.steps r.hint.steps same same_notes
+            steps tx_steps hints x.keeps,
       )
 
 -- a drain with the record of its seat's steps after a call

@@ -2,6 +2,10 @@
 use Rattle.run_workers.proofs.Names.{◌≡◌, ◌≢◌, ℕ, ◌<◌, inl, inr, All, Bool, List, Some, refl, sym}
 use Rattle.run_workers.proofs.Names.{ap, subst, ◌∙◌, length, length-set, slice_get, slice_set}
 use Rattle.run_workers.proofs.Names.{slice_get_within, StepBy, HasOpen, IsOutside, BoardSeatView}
+use Rattle.run_workers.proofs.Names.{BoardStep, []}
+use Rattle.run_workers.specs.Hands.KeptMaps.{Kept}
+use Rattle.run_workers.specs.Hands.Servers.{KeepsMaps}
+use Rattle.run_workers.specs.Records.Replying.{IsReplying}
 use Rattle.run_workers.proofs.Names.{Setup, StaysApplication, IsServer, TakesOrLeaves, Inboxes}
 use Rattle.run_workers.proofs.Names.{Port, Server, Grows, TurnsGrow, NotesGrow, Note, IsTurnOfOne}
 use Rattle.run_workers.proofs.Names.{KeepsPoller, KeepsServer, actor_at, StageView, GoesOn}
@@ -48,9 +52,9 @@ module _ (t : StageView) (w v : Worker) (s r : Seats) (i : ℕ) (y u : Server) (
     grow : Grows s.rx.steps r.rx.steps × Grows s.hint.steps r.hint.steps
     grow = calls_add_steps.takes t.rx.sizes given y u took s.rx r.rx s.hint r.hint takes
 
-    on : TakesOn given x.rows t.tx.sizes.start t.late y u x.replies x.noted r.rx r.hint
+    on : TakesOn given x.rows t.tx.sizes.start t.late y u x.replies x.noted r.rx s.tx.steps r.hint
     on = takes_go_on t.rx.sizes given x.rows t.tx.sizes.start t.late y u took x.replies x.noted
-        s.rx r.rx s.hint r.hint takes was.keeps
+        s.rx r.rx s.tx.steps s.hint r.hint takes was.keeps
 
     on_grow : TurnsGrow y.app x.noted on.more
     on_grow = notes_grow y u x.noted on.more on.grow
@@ -61,6 +65,12 @@ module _ (t : StageView) (w v : Worker) (s r : Seats) (i : ℕ) (y u : Server) (
     tx_number : r.tx.number ≡ s.tx.number
     tx_number = ap (λ (z : BoardSeatView). z.number) tx
 
+    tx_steps : r.tx.steps ≡ s.tx.steps
+    tx_steps = ap (λ (z : BoardSeatView). z.steps) tx
+
+    kept : u.kept ≡ y.kept
+    kept = applications_stay.maps t.rx.sizes given y u took s.rx r.rx s.hint r.hint takes
+
     this_server : KeepsServer t r x.rows x.replies on.more i u
     this_server =
         record {
@@ -69,7 +79,10 @@ module _ (t : StageView) (w v : Worker) (s r : Seats) (i : ℕ) (y u : Server) (
           room = stay.room ∙ was.room;
           start = stay.start ∙ was.start;
           is = is;
-          keeps = on.keeps;
+          maps = subst (λ (z : Kept × List BoardStep). KeepsMaps given z.0 z.1)
+              (λ j. (sym kept j, sym tx_steps j)) was.maps;
+          keeps = subst (λ (ds : List BoardStep). IsReplying given x.rows t.tx.sizes.start t.late
+              u x.replies on.more r.rx.steps ds r.hint.steps) (sym tx_steps) on.keeps;
         }
 
     other_server : (k : ℕ) (z : Server) → k ≢ i → KeepsServer t s x.rows x.replies x.noted k z
@@ -78,7 +91,7 @@ module _ (t : StageView) (w v : Worker) (s r : Seats) (i : ℕ) (y u : Server) (
         server_stays t s r x.rows x.replies x.replies x.noted on.more k z tx_number refl
         (others_stay y.app z.app x.noted on.more
         (actors_differ t.tx.sizes s.tx.number i k y.app z.app was.own kept.own apart) on_grow)
-        grow.0 grow.1 kept
+        grow.0 ([], tx_steps) grow.1 kept
 
     noted_by : All (IsTurnOfOne t.tx.sizes r.tx.number (length v.servers.items)) on.more
     noted_by =

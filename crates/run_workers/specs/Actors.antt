@@ -8,7 +8,7 @@ use Rattle.hop_delivery.specs.Orders.Turns.{Turn}
 use Rattle.steer_model.specs.State.Setup.{Setup}
 use Rattle.run_workers.specs.Hands.Drains.{IsDrain}
 use Rattle.run_workers.specs.Hands.Pollers.{IsPoller}
-use Rattle.run_workers.specs.Hands.Servers.{IsServer}
+use Rattle.run_workers.specs.Hands.Servers.{IsServer, KeepsMaps}
 use Rattle.run_workers.specs.declared.drain.Drain.{Drain}
 use Rattle.run_workers.specs.declared.drain.Exit.{Exit}
 use Rattle.run_workers.specs.declared.poller.Poller.{Poller}
@@ -59,9 +59,9 @@ pub record KeepsDrain (about : BoardSizes) (given : Setup) (exit : Exit) (seat :
   pub is : IsDrain given d seat.steps
 
 -- An application is one of its worker's own, has room for all packets, counts from the number at
--- which the counters of the receive board start, whose out lanes the inboxes are, and has its
--- record over the turns of its seat at the transmit board. `rows` is the number of classes of its
--- flow table.
+-- which the counters of the receive board start, whose out lanes the inboxes are, keeps maps that
+-- its seat read at the transmit board, and has its record over the turns of its seat there. `rows`
+-- is the number of classes of its flow table.
 pub record KeepsServer (t : StageView) (s : Seats) (rows : ℕ)
     (replies : List (StepBy Turn)) (noted : List (StepBy Note)) (k : ℕ) (v : Server)
     : Type 0 where
@@ -70,5 +70,6 @@ pub record KeepsServer (t : StageView) (s : Seats) (rows : ℕ)
   pub room : v.sent.room ≡ t.rx.sizes.room
   pub start : v.start ≡ t.rx.sizes.start
   pub is : IsServer t.shared.given v
+  pub maps : KeepsMaps t.shared.given v.kept s.tx.steps
   pub keeps : IsReplying t.shared.given rows t.tx.sizes.start t.late v replies noted s.rx.steps
-      s.hint.steps
+      s.tx.steps s.hint.steps

@@ -64,6 +64,7 @@ pub record IsNewServer (t : StageView) (number rows k : ℕ) (v : Server) : Type
   pub sent : v.sent.items ≡ []
   pub choices : v.choices.items ≡ []
   pub writes : v.writes.items ≡ []
+  pub kept : v.kept.visit ≡ None
 
 -- A worker of new actors, at seats that have made no step.
 pub record IsNew (t : StageView) (w : Worker) (s : Seats) : Type 0 where

@@ -1,5 +1,5 @@
 //! The maps of the transmit queues, which an application keeps from reply to reply.
-ghost use Rattle.std.specs.Prelude.{◌≡◌, ◌<◌, ◌≤◌, slice_set};
+ghost use Rattle.std.specs.Prelude.{◌≡◌, ◌≢◌, ◌<◌, ◌≤◌, None, Some, false, slice_set, true};
 ghost use Rattle.xps_map.specs.Maps.{picked};
 ghost use Rattle.run_words.specs.Values.{cpus_in, queues_in};
 ghost use Rattle.run_workers.specs.Hands.KeptMaps.{IsFor, with_map};
@@ -12,8 +12,8 @@ use xps_map::XpsMaps;
 /// The most transmit queues.
 const MAX_TXS: usize = 32;
 
-/// The maps of 1 to 32 transmit queues, and the words by which they were set: a word that is read
-/// again sets nothing.
+/// The maps of 1 to 32 transmit queues, the words by which they were set, and the number of the
+/// visits in which they are known: all visits of one number read the same words.
 #[derive(Drop)]
 pub struct KeptMaps {
     // Of so many processors, receive queues and transmit queues.
@@ -23,6 +23,7 @@ pub struct KeptMaps {
     cpu_words: [u64; MAX_TXS],
     queue_words: [u64; MAX_TXS],
     maps: XpsMaps,
+    visit: Option<u32>,
 }
 
 impl Model for KeptMaps {
@@ -30,20 +31,26 @@ impl Model for KeptMaps {
 
     ghost Value = { Kept };
 
-    ghost view = { λ k. record { cpus = k.cpus; queues = k.queues; maps = k.maps } };
+    ghost view = { λ k. record {
+      cpus = k.cpus;
+      queues = k.queues;
+      maps = k.maps;
+      visit = k.visit;
+    } };
 
     ghost invariant = { λ k. IsByWords k.cpus k.queues k.txs k.cpu_words k.queue_words k.maps };
 }
 
 impl KeptMaps {
     /// Empty maps for `txs` transmit queues, 1 to 32, whose words are of so many processors and
-    /// receive queues.
+    /// receive queues. They are known in no visit.
     pub fn make(cpus: u8, queues: u8, txs: u8) -> KeptMaps
         requires cpus { cpus ≤ 32 }
         requires queues { queues ≤ 16 }
         requires some { 1 ≤ txs }
         requires few { txs ≤ 32 }
-        ensures { IsFor cpus queues txs result }
+        ensures sizes { IsFor cpus queues txs result }
+        ensures visit { result.visit ≡ None }
     {
         let sets = [CpuMask(0); MAX_TXS];
         let lists = [0; MAX_TXS];
@@ -55,6 +62,7 @@ impl KeptMaps {
             cpu_words: [0; MAX_TXS],
             queue_words: [0; MAX_TXS],
             maps: XpsMaps::from_lists(&sets[..count], &lists[..count]),
+            visit: None,
         }
     }
 
@@ -70,6 +78,24 @@ impl KeptMaps {
         if self.cpus != cpus || self.queues != queues || self.txs != txs {
             *self = KeptMaps::make(cpus, queues, txs);
         }
+    }
+
+    /// Whether all of the maps are known in visits of this number.
+    pub fn is_of(&self, number: u32) -> bool
+        ensures yes { result ≡ true → self.now.visit ≡ Some number }
+        ensures no { result ≡ false → self.now.visit ≢ Some number }
+    {
+        match self.visit {
+            Some(known) => known == number,
+            None => false,
+        }
+    }
+
+    /// Notes that all of the maps are known in visits of this number.
+    pub fn know(&mut self, number: u32)
+        ensures { self.new ≡ record self.old { visit = Some number } }
+    {
+        self.visit = Some(number);
     }
 
     /// Sets the maps of a transmit queue by its two words, where these are not the ones that were

@@ -14,7 +14,8 @@ ghost use Rattle.run_words.specs.Numbers.{word_count};
 ghost use Rattle.run_words.specs.declared.hint_word.TheConstants.{PACKET_WORDS};
 ghost use Rattle.run_workers.specs.Hands.Pollers.{HasLanesBelow, HasQueueSettings, LoadsHead};
 ghost use Rattle.run_workers.specs.Hands.Servers.{ChoosesLane, HasFlowsBelow, HasTransmitSettings};
-ghost use Rattle.run_workers.specs.Hands.Servers.{IsServer, LoadsMark, LooksInVain, MapsRead};
+ghost use Rattle.run_workers.specs.Hands.Servers.{IsServer, KeepsMaps, LoadsMark, LooksInVain};
+ghost use Rattle.run_workers.specs.Hands.Servers.{MapsRead};
 ghost use Rattle.run_workers.specs.Hands.Servers.{Notes, Peeks, PutsReply};
 ghost use Rattle.run_workers.specs.Hands.Servers.{Queued};
 ghost use Rattle.run_workers.specs.Hands.Servers.{ReadsMap, RepliesOrKeeps, Sends, Stands};
@@ -57,8 +58,8 @@ pub struct Server {
     pub choices: Journal<Chosen>,
     /// The writes to the socket flow table.
     pub writes: Journal<SockWrite>,
-    /// The maps of the transmit queues as they were read for the last reply. Before the first reply
-    /// they are of one queue.
+    /// The maps of the transmit queues as they were read last, with the number of the visits in
+    /// which they were read. Before the first reply they are of one queue and of no visit.
     pub kept: KeptMaps,
 }
 
@@ -98,6 +99,7 @@ impl Server {
         ensures sent { IfOk result (λ s. s.sent ≡ journal [] room) }
         ensures choices { IfOk result (λ s. s.choices ≡ journal [] room) }
         ensures writes { IfOk result (λ s. s.writes ≡ journal [] room) }
+        ensures kept { IfOk result (λ s. s.kept.visit ≡ None) }
         ensures is { IfOk result (λ s. (given : Setup) → HasFlowsBelow given room flows
             → IsServer given s) }
     {
@@ -181,9 +183,11 @@ impl Server {
         requires settings { HasTransmitSettings (B.view board.now).sizes shared.now.given }
         requires room { self.old.sent.room ≡ (B.view board.now).sizes.room }
         requires is { IsServer shared.now.given self.old }
+        requires kept { KeepsMaps shared.now.given self.old.kept seat.old.steps }
         ensures replies { RepliesOrKeeps shared.now.given late.now self.old self.new
             seat.old seat.new hint.old hint.new result }
         ensures is { IsServer shared.now.given self.new }
+        ensures kept { KeepsMaps shared.now.given self.new.kept seat.new.steps }
         ensures outside { IsOutside seat.new.steps }
         ensures open { HasOpen seat.new.steps }
     {
@@ -380,9 +384,11 @@ impl Server {
         requires room { self.old.sent.room ≡ (B.view board.now).sizes.room }
         requires hand { self.old.hand ≡ Some sent.id }
         requires is { IsServer shared.now.given self.old }
+        requires kept { KeepsMaps shared.now.given self.old.kept seat.old.steps }
         ensures sends { Sends shared.now.given sent result self.old.table self.new.table
             seat.old seat.new }
         ensures is { IsServer shared.now.given self.new }
+        ensures kept { KeepsMaps shared.now.given self.new.kept seat.new.steps }
         ensures notes_sent { self.new.sent ≡ grown self.old.sent sent }
         ensures notes_choice { self.new.choices
             ≡ grown self.old.choices (record { id = sent.id; choice = result }) }
@@ -395,7 +401,7 @@ impl Server {
         } }
     {
         let Sent { id, rxq, cpu } = sent;
-        read_maps(board, shared, seat, &mut self.kept);
+        know_maps(board, shared, seat, &mut self.kept);
         let pick = self.kept.pick(rxq, cpu, shared.given.hash_of(id));
         let class = shared.given.flow_of(id);
         let choice = self.choose(board, seat, class, pick.0, shared.given.txs());
@@ -442,6 +448,25 @@ fn late_queue(late: &[Arrival], id: PacketId) -> Option<RxQueue>
     } else {
         None
     }
+}
+
+// Sees to it, in a visit, that the maps are those of the visit: reads those of all transmit queues,
+// unless they were read in a visit of the same number.
+fn know_maps<B: Board>(board: &B, shared: &Shared, seat: &mut BoardSeat, kept: &mut KeptMaps)
+    requires table { seat.old.table ≡ (B.view board.now).table }
+    requires inside { IsInside seat.old.steps }
+    requires settings { HasTransmitSettings (B.view board.now).sizes shared.now.given }
+    requires kept { KeepsMaps shared.now.given kept.old seat.old.steps }
+    ensures reads { MapsRead shared.now.given shared.now.given.txs kept.new.maps
+        seat.old seat.new }
+    ensures kept { KeepsMaps shared.now.given kept.new seat.new.steps }
+{
+    let number = seat.visit_number();
+    if kept.is_of(number) {
+        return;
+    }
+    read_maps(board, shared, seat, kept);
+    kept.know(number);
 }
 
 // Reads the maps of all transmit queues, in a visit.

@@ -220,6 +220,7 @@ module _ (settings : BoardsHaveSettings) (back : ReadBack) (begins : WorkersBegi
         sent = ap (λ (j : Journal Sent). j.items) f.sent;
         choices = ap (λ (j : Journal Chosen). j.items) f.choices;
         writes = ap (λ (j : Journal SockWrite). j.items) f.writes;
+        kept = f.kept;
       }
 
   -- ---- all workers

@@ -62,6 +62,7 @@ pub record IsFirstServer (plan : Plan) (room flows a : ℕ) (v : Server) : Type 
   pub sent : v.sent ≡ journal [] room
   pub choices : v.choices ≡ journal [] room
   pub writes : v.writes ≡ journal [] room
+  pub kept : v.kept.visit ≡ None
   pub is : (given : Setup) → HasFlowsBelow given room flows → IsServer given v
 
 -- The actors are those of a plan for these packets: a poller for each receive queue, what empties

@@ -21,6 +21,8 @@ use Rattle.board_api.specs.declared.held_lane.LaneId.TheVariants as id
 use Rattle.hop_delivery.specs.Orders.Turns.{visit_with}
 use Rattle.steer_model.specs.State.Setup.{Setup}
 use Rattle.run_words.specs.Numbers.{word_count}
+use Rattle.run_workers.specs.Hands.KeptMaps.{Kept}
+use Rattle.run_workers.specs.Hands.Servers.{KeepsMaps}
 use Rattle.run_workers.specs.Hands.Deltas.{no_lane}
 use Rattle.run_controller.specs.Gates.{ClosesEmpty, SetsAndOpens}
 use Rattle.run_workers.specs.Hands.Servers.{BacksOut, HasNoNext, IsServer, LoadsMark, Peeks}
@@ -180,13 +182,16 @@ module _ (shared : Shared) (hint : Hint) (s : Server) (rb : BoardView) (rs rc : 
             (takes_rest rb 2 rb.sizes shared.given s t did rs seat hint hint_new x.takes.rests
             takes);
         replies = x.replies;
+        kept = subst (λ (z : Kept). KeepsMaps shared.given z ts.steps)
+            (sym (applications_stay.maps rb.sizes shared.given s t did rs seat hint hint_new takes))
+            x.kept;
       }
 
   pub replied : (late : List Arrival) (t : Server) (did : Bool) (seat : Seat) (hint_new : Hint)
       → RepliesOrKeeps shared.given late s t ts seat hint hint_new did
-      → IsServer shared.given t → IsOutside seat.steps → HasOpen seat.steps
-      → IsOffice shared hint_new t rb rs rc tb seat tc k
-  replied late t did seat hint_new replies is outside unclosed =
+      → IsServer shared.given t → KeepsMaps shared.given t.kept seat.steps → IsOutside seat.steps
+      → HasOpen seat.steps → IsOffice shared hint_new t rb rs rc tb seat tc k
+  replied late t did seat hint_new replies is kept outside unclosed =
       let stays = applications_stay.replies shared.given late s t did ts seat hint hint_new
       replies in
       record {
@@ -195,6 +200,7 @@ module _ (shared : Shared) (hint : Hint) (s : Server) (rb : BoardView) (rs rc : 
         replies = seat_moves 0 tb ts tc k x.replies seat
             (replies_rest tb 0 shared.given late s t did ts seat hint hint_new x.replies.rests
             replies outside unclosed);
+        kept = kept;
       }
 
   pub given_back : (o : ℕ) (h : HeldLane) (mid new : Seat) → Took rb.sizes (id.Out o) rc mid h
@@ -206,6 +212,7 @@ module _ (shared : Shared) (hint : Hint) (s : Server) (rb : BoardView) (rs rc : 
             (back_rests rb 3 rc mid new (id.Out o) h x.takes.closer_rests t told)
             (open_as_before rb.sizes o rc mid new h t told);
         replies = x.replies;
+        kept = x.kept;
       }
 
   pub receive_opened : (lanes : CpuMask) (mid new : Seat) (i v : ℕ)
@@ -218,6 +225,7 @@ module _ (shared : Shared) (hint : Hint) (s : Server) (rb : BoardView) (rs rc : 
             (made_rests no_lane rb 3 rb.sizes lanes rc new mid i v x.takes.closer_rests closes
             sets);
         replies = desk_later 0 tb ts tc k x.replies;
+        kept = x.kept;
       }
 
   pub transmit_opened : (lanes : CpuMask) (mid new : Seat) (i v : ℕ)
@@ -230,4 +238,5 @@ module _ (shared : Shared) (hint : Hint) (s : Server) (rb : BoardView) (rs rc : 
         replies = desk_opened 0 tb ts tc k x.replies new
             (made_rests no_lane tb 1 tb.sizes lanes tc new mid i v x.replies.closer_rests closes
             sets);
+        kept = x.kept;
       }

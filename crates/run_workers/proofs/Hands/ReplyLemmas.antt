@@ -1,7 +1,10 @@
 -- What an application's seat does at the transmit board.
 use Rattle.std.proofs.lemmas.List.{get_or-set_same, get_or-set_other, length-set}
 use Rattle.xps_map.specs.Maps.{picked}
-use Rattle.board_api.specs.StepWords.{is_marked}
+use Rattle.hop_rule.specs.Gates.{visit_number}
+use Rattle.board_api.specs.OwnSteps.{ReadsIn}
+use Rattle.board_api.specs.StepWords.{is_marked, openings_in}
+use Rattle.board_api.proofs.NumberedSteps.{numbered_reads_stay, reads_are_numbered}
 use Rattle.steer_model.specs.State.Setup.{flow_number_of}
 use Rattle.run_workers.specs.Hands.KeptMaps.{Kept, with_map}
 use Rattle.run_workers.specs.Hands.Pollers.{put_of}
@@ -10,7 +13,7 @@ use Rattle.run_workers.specs.Hands.Servers.{Replies, Sends, Stands, in_hand}
 use Rattle.run_workers.proofs.Names.{◌≡◌, ◌≢◌, ◌⊎◌, inl, inr, ℕ, ◌+◌, ◌<◌, ◌==◌, true, false, arith}
 use Rattle.run_workers.proofs.Names.{List, [], ◌∷◌, ◌++◌, Option, None, Some, refl, sym, ap, subst}
 use Rattle.run_workers.proofs.Names.{◌∙◌, length, length-append, unwrap_or, eqb_tells}
-use Rattle.run_workers.proofs.Names.{Contains-append_left, Contains-append_right, Contains-push}
+use Rattle.run_workers.proofs.Names.{Grows}
 use Rattle.run_workers.proofs.Names.{Choice, CpuMask, Put, table_after, Table, IsClassOf, weighed}
 use Rattle.run_workers.proofs.Names.{Maps, no_cpus, BoardStep, Gate, Entered, Left, Read}
 use Rattle.run_workers.proofs.Names.{gate_steps, closed, visit, HasOpen, IsInside, BoardSeatView}
@@ -19,6 +22,8 @@ use Rattle.run_workers.proofs.Names.{Journal, grown, Chosen, At, Dropped, Setup,
 use Rattle.run_workers.proofs.Names.{cpus_in, queues_in, HasLanesBelow, IsServer, Server}
 use Rattle.run_workers.proofs.Names.{quiet_steps_stay}
 use Rattle.run_workers.proofs.Hands.ChoiceLemmas.{class_stays, told_below}
+use Rattle.run_workers.proofs.Records.ListLemmas.{grows_both}
+use Rattle.run_workers.proofs.Hands.MapLemmas.{map_later}
 use Rattle.run_workers.proofs.Hands.DeltaLemmas.{adds_both, holds_both, leaves_both, quiet_both}
 use Rattle.run_workers.proofs.Hands.PutLemmas.{PutMade}
 use Rattle.run_workers.proofs.Hands.ServerLemmas.{quiet_place}
@@ -52,7 +57,14 @@ idle_map a b v w =
       leaves = λ i. record { hand = λ own. refl; retires = refl; deliveries = refl };
     }
 
-module _ (given : Setup) (old : BoardSeatView) where
+module _ (given : Setup) (old : BoardSeatView) (is : IsInside old.steps) where
+  abbrev this_visit : ℕ
+  this_visit = visit_number (gate_steps old.steps)
+
+  pub maps_inside : (n : ℕ) (maps : Maps) (new : BoardSeatView) → MapsRead given n maps old new
+      → IsInside new.steps
+  maps_inside n maps new m = quiet_place m.added old new m.quiet m.adds ∙ is
+
   module _ (n : ℕ) (maps : Maps) (mid new : BoardSeatView) (low : n < given.txs)
       (m : MapsRead given n maps old mid) (cpu_word queue_word : ℕ)
       (adds : Adds (Gate (Read (given.txs + n) queue_word) ∷ Gate (Read n cpu_word) ∷ []) mid new)
@@ -69,47 +81,60 @@ module _ (given : Setup) (old : BoardSeatView) where
       abbrev queue_set : ℕ
       queue_set = queues_in queue_word (length given.homes)
 
-      this_read : MapRead given.cpus (length given.homes) given.txs n now (pair ++ m.added)
+      abbrev grow : Grows mid.steps new.steps
+      grow = (pair, ap (λ (v : BoardSeatView). v.steps) adds)
+
+      number_stays : visit_number (gate_steps mid.steps) ≡ this_visit
+      number_stays =
+          ap (λ (v : BoardSeatView). visit_number (gate_steps v.steps)) m.adds
+          ∙ (quiet_steps_stay m.added old.steps m.quiet.visits).number
+
+      -- a setting that the two steps read is one that was read in a visit of this number
+      read_now : (setting value : ℕ)
+          → ReadsIn (pair ++ mid.steps) (visit_number (gate_steps mid.steps)) setting value
+          → ReadsIn new.steps this_visit setting value
+      read_now setting value =
+          subst (λ (z : List BoardStep × ℕ). ReadsIn z.0 z.1 setting value)
+          (λ j. (sym grow.1 j, number_stays j))
+
+      this_read : MapRead given.cpus (length given.homes) given.txs n now new.steps this_visit
       this_read =
           record {
             cpu_word = cpu_word;
             queue_word = queue_word;
-            reads_cpus = Contains-append_left pair m.added (Gate (Read n cpu_word))
-                (Contains-append_right (Gate (Read (given.txs + n) queue_word) ∷ [])
-                (Gate (Read n cpu_word) ∷ []) (Gate (Read n cpu_word))
-                (Contains-push [] (Gate (Read n cpu_word))));
-            reads_queues = Contains-append_left pair m.added
-                (Gate (Read (given.txs + n) queue_word))
-                (Contains-append_left (Gate (Read (given.txs + n) queue_word) ∷ [])
-                (Gate (Read n cpu_word) ∷ []) (Gate (Read (given.txs + n) queue_word))
-                (Contains-push [] (Gate (Read (given.txs + n) queue_word))));
+            reads_cpus = read_now n cpu_word
+                (numbered_reads_stay (Gate (Read (given.txs + n) queue_word) ∷ [])
+                (Gate (Read n cpu_word) ∷ mid.steps) (visit_number (gate_steps mid.steps)) n
+                cpu_word (reads_are_numbered mid.steps n cpu_word (maps_inside n maps mid m)));
+            reads_queues = read_now (given.txs + n) queue_word
+                (reads_are_numbered (Gate (Read n cpu_word) ∷ mid.steps) (given.txs + n)
+                queue_word (maps_inside n maps mid m));
             cpus_are = get_or-set_same maps.cpus n cpu_set no_cpus
-                (subst (λ (k : ℕ). n < k) (sym m.cpu_sets) low);
+                (subst (λ (k : ℕ). n < k) (sym m.has.cpu_sets) low);
             queues_are = get_or-set_same maps.queues n queue_set 0
-                (subst (λ (k : ℕ). n < k) (sym m.queue_sets) low);
+                (subst (λ (k : ℕ). n < k) (sym m.has.queue_sets) low);
           }
 
       other_read : (tx : ℕ) → tx ≢ n → tx < n
-          → MapRead given.cpus (length given.homes) given.txs tx now (pair ++ m.added)
+          → MapRead given.cpus (length given.homes) given.txs tx now new.steps this_visit
       other_read tx apart less =
-          let r = m.reads tx less in
+          let r = map_later mid.steps new.steps grow given.cpus (length given.homes) given.txs tx
+          this_visit maps (m.has.reads tx less) in
           record {
             cpu_word = r.cpu_word;
             queue_word = r.queue_word;
-            reads_cpus = Contains-append_right pair m.added (Gate (Read tx r.cpu_word))
-                r.reads_cpus;
-            reads_queues = Contains-append_right pair m.added
-                (Gate (Read (given.txs + tx) r.queue_word)) r.reads_queues;
+            reads_cpus = r.reads_cpus;
+            reads_queues = r.reads_queues;
             cpus_are = get_or-set_other maps.cpus n tx cpu_set no_cpus apart ∙ r.cpus_are;
             queues_are = get_or-set_other maps.queues n tx queue_set 0 apart ∙ r.queues_are;
           }
 
       by_number : (tx : ℕ) → tx < n + 1
           → (((tx == n) ≡ true) × (tx ≡ n)) ⊎ (((tx == n) ≡ false) × (tx ≢ n))
-          → MapRead given.cpus (length given.homes) given.txs tx now (pair ++ m.added)
+          → MapRead given.cpus (length given.homes) given.txs tx now new.steps this_visit
       by_number tx less (inl (t, same)) =
-          subst (λ (k : ℕ). MapRead given.cpus (length given.homes) given.txs k now
-          (pair ++ m.added)) (sym same) this_read
+          subst (λ (k : ℕ). MapRead given.cpus (length given.homes) given.txs k now new.steps
+          this_visit) (sym same) this_read
       by_number tx less (inr (t, apart)) =
           other_read tx apart (below tx less apart)
         where
@@ -127,10 +152,12 @@ module _ (given : Setup) (old : BoardSeatView) where
                 (idle_map (given.txs + n) n queue_word cpu_word).holds m.holds;
             leaves = λ l. leaves_both l pair m.added
                 ((idle_map (given.txs + n) n queue_word cpu_word).leaves l) (m.leaves l);
-            reads = λ tx less. by_number tx less (eqb_tells tx n);
-            count = m.count;
-            cpu_sets = length-set maps.cpus n cpu_set ∙ m.cpu_sets;
-            queue_sets = length-set maps.queues n queue_set ∙ m.queue_sets;
+            has = record {
+              reads = λ tx less. by_number tx less (eqb_tells tx n);
+              count = m.has.count;
+              cpu_sets = length-set maps.cpus n cpu_set ∙ m.has.cpu_sets;
+              queue_sets = length-set maps.queues n queue_set ∙ m.has.queue_sets;
+            };
           }
 
   pub maps_next : (n : ℕ) (maps after : Maps) (mid new : BoardSeatView) → n < given.txs
@@ -139,11 +166,6 @@ module _ (given : Setup) (old : BoardSeatView) where
   maps_next n maps after mid new low m r =
       subst (λ (x : Maps). MapsRead given (n + 1) x old new) (sym r.3)
       (maps_more n maps mid new low m r.0 r.1 r.2)
-
-  pub maps_inside : (n : ℕ) (maps : Maps) (new : BoardSeatView) → MapsRead given n maps old new
-      → IsInside old.steps → IsInside new.steps
-  maps_inside n maps new m is =
-      quiet_place m.added old new m.quiet m.adds ∙ is
 
 -- ---- the choice
 
@@ -249,18 +271,18 @@ replied_from given s a p id class answer sent chosen sents choices is hand insid
 
 -- ---- a visit
 
-map_more : (cpus queues count tx : ℕ) (maps : Maps) (front steps : List BoardStep)
-    → MapRead cpus queues count tx maps steps → MapRead cpus queues count tx maps (front ++ steps)
-map_more cpus queues count tx maps front steps r =
-    record {
-      cpu_word = r.cpu_word;
-      queue_word = r.queue_word;
-      reads_cpus = Contains-append_right front steps (Gate (Read tx r.cpu_word)) r.reads_cpus;
-      reads_queues = Contains-append_right front steps (Gate (Read (count + tx) r.queue_word))
-          r.reads_queues;
-      cpus_are = r.cpus_are;
-      queues_are = r.queues_are;
-    }
+-- what the seat did after it knew the maps
+pub put_grows : (given : Setup) (flow pick id : ℕ) (before between after : Table) (choice : Choice)
+    (answer : Put) (read mid new : BoardSeatView)
+    → ChoosesLane flow pick before between choice read mid
+    → PutsReply given id choice answer between after mid new → Grows read.steps new.steps
+put_grows given flow pick id before between after choice answer read mid new c p =
+    let h = head_steps before (Some flow) c.head read mid c.loads in
+    let put = put_of given choice.lane id answer in (
+      (put ∷ p.early) ++ h.added,
+      ap (λ (v : BoardSeatView). v.steps)
+          (adds_both read mid new (put ∷ p.early) h.added h.adds p.adds),
+    )
 
 module _ (given : Setup) (sent : Sent) (choice : Choice) (before after : Table)
     (old new : BoardSeatView) (s : Sends given sent choice before after old new) where
@@ -335,6 +357,15 @@ module _ (given : Setup) (sent : Sent) (choice : Choice) (before after : Table)
       all = idle_both (Gate Left ∷ []) ((put ∷ early) ++ Gate (Entered w) ∷ []) idle_left
           (idle_both (put ∷ early) (Gate (Entered w) ∷ []) idle (idle_entered w))
 
+      number_is : visit_number (gate_steps old.steps) ≡ openings_in w
+      number_is = ap (λ (v : BoardSeatView). visit_number (gate_steps v.steps)) enters
+
+      read_grow : Grows s.read.steps last.steps
+      read_grow = grows_both s.read.steps new.steps last.steps
+          (put_grows given flow pick sent.id before s.between after choice s.answer s.read s.mid
+          new s.chooses s.puts)
+          (Gate Left ∷ [], ap (λ (v : BoardSeatView). v.steps) leaves)
+
       pub replies : Replies given app home sent before after (reply_turn w) first last hint_old
           hint_new
       replies =
@@ -349,11 +380,12 @@ module _ (given : Setup) (sent : Sent) (choice : Choice) (before after : Table)
             id_is = refl;
             hash = refl;
             maps = s.maps;
-            count = s.reads.count;
-            reads = λ tx low. map_more given.cpus (length given.homes) given.txs tx s.maps
-                s.puts.early (head.added ++ s.reads.added)
-                (map_more given.cpus (length given.homes) given.txs tx s.maps head.added
-                s.reads.added (s.reads.reads tx low));
+            count = s.reads.has.count;
+            reads = λ tx low. subst (MapRead given.cpus (length given.homes) given.txs tx s.maps
+                last.steps) number_is
+                (map_later s.read.steps last.steps read_grow given.cpus (length given.homes)
+                given.txs tx (visit_number (gate_steps old.steps)) s.maps
+                (s.reads.has.reads tx low));
             stands = stands;
             head = s.chooses.head;
             loads = loads_if before (Some flow) s.chooses.head s.puts.early head.added

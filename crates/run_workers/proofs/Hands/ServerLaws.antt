@@ -249,5 +249,12 @@ replies_stay given late s t false old new hint_old hint_new x =
       hint_table = kept_hint _ late s.hand hint_old hint_new x.queue x.hint x.untouched;
     }
 
+-- an application that takes a packet or none keeps its maps
+maps_stay : (about : BoardSizes) (given : Setup) (s t : Server) (took : Bool)
+    (old new : BoardSeatView) (hint_old hint_new : Hint)
+    → TakesOrLeaves about given s t old new hint_old hint_new took → t.kept ≡ s.kept
+maps_stay about given s t true old new hint_old hint_new x = ap (λ (z : Server). z.kept) x.same
+maps_stay about given s t false old new hint_old hint_new x = ap (λ (z : Server). z.kept) x.same
+
 pub applications_stay : ApplicationsStay
-applications_stay = record { takes = takes_stay; replies = replies_stay }
+applications_stay = record { takes = takes_stay; replies = replies_stay; maps = maps_stay }

@@ -1,6 +1,7 @@
 -- An application's record of its packets and turns, after its calls and beside other actors.
 use Rattle.std.specs.Prelude.{slice_get}
 use Rattle.std.proofs.lemmas.List.{length-map}
+use Rattle.board_api.specs.StepWords.{openings_in}
 use Rattle.run_workers.specs.Hands.Servers.{KeepsHand, Replies, RepliesToHand}
 use Rattle.run_workers.proofs.Names.{◌≡◌, ◌⊎◌, inl, inr, ℕ, ◌*◌, ◌<◌, true, false, List, [], ◌∷◌}
 use Rattle.run_workers.proofs.Names.{◌++◌, Option, None, Some, IfSome, length, map, sym, refl, ap}
@@ -10,7 +11,7 @@ use Rattle.run_workers.proofs.Names.{HintStep, BoardSizes, BoardStep, Gate, Lane
 use Rattle.run_workers.proofs.Names.{Read, Turned, OutHeld, none-some, BoardSeatView, Adds}
 use Rattle.run_workers.proofs.Names.{Explained, Turn, class_of, Setup, packet_hash, oldest_first}
 use Rattle.run_workers.proofs.Names.{socket_size_in, BacksOut, IsServer, LeavesInbox, Queued}
-use Rattle.run_workers.proofs.Names.{TakesNext, Server, Grows, NotesGrow, Note}
+use Rattle.run_workers.proofs.Names.{TakesNext, Server, Grows, NotesGrow, Note, ◌+◌, visit_with}
 use Rattle.run_workers.proofs.Hands.ServerLaws.{applications_explain}
 use Rattle.run_workers.specs.Records.Growth.{held}
 use Rattle.run_workers.specs.Records.Polling.{choices_in}
@@ -27,6 +28,8 @@ use Rattle.run_workers.proofs.Records.HintLemmas.{leaves_load, load_grow, steps_
 use Rattle.run_workers.proofs.Records.ListLemmas.{append_none, contains_later, get_last, grows_both}
 use Rattle.run_workers.proofs.Records.ListLemmas.{grows_same, noted_more, own_turn}
 use Rattle.run_workers.proofs.Records.WordLemmas.{AreRead, words_of}
+use Rattle.run_workers.proofs.Hands.DeltaLemmas.{without_reasons}
+use Rattle.run_workers.proofs.Hands.MapLemmas.{reads_later}
 use Rattle.run_workers.proofs.Hands.WaitLemmas.{leaves_at_board}
 
 abbrev Hint : Type 0
@@ -39,17 +42,20 @@ ids sents = map (λ (r : Sent). r.id) sents
 -- ---- turns stay
 
 module _ (rows start : ℕ) (given : Setup) (packets app home : ℕ) (arrivals : List Arrival) where
-  module _ (ds es : List HintStep) (grow : Grows ds es) where
+  module _ (ds es : List HintStep) (us vs : List BoardStep) (grow : Grows ds es)
+      (tx_grow : Grows us vs) where
     replied_later : (rs : List RepliedTurn) (r : RepliedTurn)
-        → IsReplied rows start given packets app home arrivals ds rs r
-        → IsReplied rows start given packets app home arrivals es rs r
+        → IsReplied rows start given packets app home arrivals ds us rs r
+        → IsReplied rows start given packets app home arrivals es vs rs r
     replied_later rs r x =
         record {
           within = x.within;
           id_is = x.id_is;
           hash = x.hash;
-          cpu_reads = x.cpu_reads;
-          queue_reads = x.queue_reads;
+          cpu_reads = λ n less. reads_later us vs tx_grow (openings_in r.turn.word) n (r.words n)
+              (x.cpu_reads n less);
+          queue_reads = λ n less. reads_later us vs tx_grow (openings_in r.turn.word)
+              (given.txs + n) (r.words (given.txs + n)) (x.queue_reads n less);
           maps = x.maps;
           count = x.count;
           cpus_are = x.cpus_are;
@@ -63,15 +69,15 @@ module _ (rows start : ℕ) (given : Setup) (packets app home : ℕ) (arrivals :
         }
 
     pub all_later : (rs : List RepliedTurn)
-        → EachReplied rows start given packets app home arrivals ds rs
-        → EachReplied rows start given packets app home arrivals es rs
+        → EachReplied rows start given packets app home arrivals ds us rs
+        → EachReplied rows start given packets app home arrivals es vs rs
     all_later [] all = all
     all_later (r ∷ rs) all = (replied_later rs r all.0, all_later rs all.1)
 
-  replied_with : (ds : List HintStep) (rs : List RepliedTurn) (r : RepliedTurn)
-      → IsReplied rows start given packets app home [] ds rs r
-      → IsReplied rows start given packets app home arrivals ds rs r
-  replied_with ds rs r x =
+  replied_with : (ds : List HintStep) (us : List BoardStep) (rs : List RepliedTurn)
+      (r : RepliedTurn) → IsReplied rows start given packets app home [] ds us rs r
+      → IsReplied rows start given packets app home arrivals ds us rs r
+  replied_with ds us rs r x =
       record {
         within = x.within;
         id_is = x.id_is;
@@ -90,15 +96,15 @@ module _ (rows start : ℕ) (given : Setup) (packets app home : ℕ) (arrivals :
         rule = x.rule;
       }
 
-  all_with : (ds : List HintStep) (rs : List RepliedTurn)
-      → EachReplied rows start given packets app home [] ds rs
-      → EachReplied rows start given packets app home arrivals ds rs
-  all_with ds [] all = all
-  all_with ds (r ∷ rs) all = (replied_with ds rs r all.0, all_with ds rs all.1)
+  all_with : (ds : List HintStep) (us : List BoardStep) (rs : List RepliedTurn)
+      → EachReplied rows start given packets app home [] ds us rs
+      → EachReplied rows start given packets app home arrivals ds us rs
+  all_with ds us [] all = all
+  all_with ds us (r ∷ rs) all = (replied_with ds us rs r all.0, all_with ds us rs all.1)
 
 pub servers_begin : ServersBegin
-servers_begin given rows start arrivals s turns noted rx hints hand table sent choices writes own
-    own_notes =
+servers_begin given rows start arrivals s turns noted rx tx hints hand table sent choices writes
+    own own_notes =
     let none : taken_by s ≡ [] = λ i. ids (sent i) ++ held (hand i) in
     record {
       replied = [];
@@ -116,8 +122,8 @@ servers_begin given rows start arrivals s turns noted rx hints hand table sent c
     }
 
 pub servers_stay : ServersStay
-servers_stay given rows start arrivals s turns more noted more_notes rx rx_after hints after same
-    same_notes rx_grow grow x =
+servers_stay given rows start arrivals s turns more noted more_notes rx rx_after tx tx_after hints
+    after same same_notes rx_grow tx_grow grow x =
     record {
       replied = x.replied;
       own = x.own ∙ sym same;
@@ -131,12 +137,12 @@ servers_stay given rows start arrivals s turns more noted more_notes rx rx_after
           (oldest_first (steps_of s.app noted)) x.notes);
       writes = x.writes
           ∙ sym (ap (λ ns. map (λ (n : Note). n.write) (oldest_first ns)) same_notes);
-      are = all_later rows start given s.sent.room s.app s.home arrivals hints after grow x.replied
-          x.are;
+      are = all_later rows start given s.sent.room s.app s.home arrivals hints after tx tx_after
+          grow tx_grow x.replied x.are;
     }
 
 pub arrivals_come : ArrivalsComeLate
-arrivals_come given rows start arrivals s turns noted rx hints x =
+arrivals_come given rows start arrivals s turns noted rx tx hints x =
     record {
       replied = x.replied;
       own = x.own;
@@ -146,7 +152,7 @@ arrivals_come given rows start arrivals s turns noted rx hints x =
       found = x.found;
       notes = x.notes;
       writes = x.writes;
-      are = all_with rows start given s.sent.room s.app s.home arrivals hints x.replied x.are;
+      are = all_with rows start given s.sent.room s.app s.home arrivals hints tx x.replied x.are;
     }
 
 -- ---- steps that calls add
@@ -175,23 +181,23 @@ leaves_grow about s t old new hint_old hint_new leaves = (
 
 module _ (about : BoardSizes) (given : Setup) (rows start : ℕ) (arrivals : List Arrival)
     (s t : Server) (turns : List (StepBy Turn)) (noted : List (StepBy Note))
-    (old new : BoardSeatView) (hint_old hint_new : Hint) where
+    (old new : BoardSeatView) (tx : List BoardStep) (hint_old hint_new : Hint) where
   takes_nothing : LeavesInbox about s t old new hint_old hint_new
-      → IsReplying given rows start arrivals s turns noted old.steps hint_old.steps
-      → TakesOn given rows start arrivals s t turns noted new hint_new
+      → IsReplying given rows start arrivals s turns noted old.steps tx hint_old.steps
+      → TakesOn given rows start arrivals s t turns noted new tx hint_new
   takes_nothing leaves x =
       let grow = leaves_grow about s t old new hint_old hint_new leaves in
       record {
         more = noted;
         grow = inl (refl, ap (λ (z : Server). z.writes.items) leaves.same);
-        keeps = subst (λ z. IsReplying given rows start arrivals z turns noted new.steps
+        keeps = subst (λ z. IsReplying given rows start arrivals z turns noted new.steps tx
             hint_new.steps) (sym leaves.same)
             (servers_stay given rows start arrivals s turns turns noted noted old.steps new.steps
-            hint_old.steps hint_new.steps refl refl grow.0 grow.1 x);
+            tx tx hint_old.steps hint_new.steps refl refl grow.0 (grows_same tx tx refl) grow.1 x);
       }
 
   module _ (takes : TakesNext about given s t old new hint_old hint_new)
-      (x : IsReplying given rows start arrivals s turns noted old.steps hint_old.steps) where
+      (x : IsReplying given rows start arrivals s turns noted old.steps tx hint_old.steps) where
     were : taken_by s ≡ ids s.sent.items
     were = ap (λ h. ids s.sent.items ++ held h) takes.empty ∙ append_none (ids s.sent.items)
 
@@ -295,13 +301,13 @@ module _ (about : BoardSizes) (given : Setup) (rows start : ℕ) (arrivals : Lis
       )
     ]
 
-    takes_one : TakesOn given rows start arrivals s t turns noted new hint_new
+    takes_one : TakesOn given rows start arrivals s t turns noted new tx hint_new
     takes_one =
         record {
           more = noted_for.more;
           grow = notes_grow;
           keeps = subst (λ z. IsReplying given rows start arrivals z turns noted_for.more new.steps
-              hint_new.steps) (sym takes.same) (record {
+              tx hint_new.steps) (sym takes.same) (record {
                 replied = x.replied;
                 own = x.own;
                 replies = x.replies;
@@ -311,16 +317,18 @@ module _ (about : BoardSizes) (given : Setup) (rows start : ℕ) (arrivals : Lis
                 notes = written_now;
                 writes = writes_now;
                 are = all_later rows start given s.sent.room s.app s.home arrivals hint_old.steps
-                    hint_new.steps hints_grow x.replied x.are;
+                    hint_new.steps tx tx hints_grow (grows_same tx tx refl) x.replied x.are;
               });
         }
 
 pub takes_go_on : TakesGoOn
-takes_go_on about given rows start arrivals s t true turns noted old new hint_old hint_new takes x =
-    takes_one about given rows start arrivals s t turns noted old new hint_old hint_new takes x
-takes_go_on about given rows start arrivals s t false turns noted old new hint_old hint_new takes
+takes_go_on about given rows start arrivals s t true turns noted old new tx hint_old hint_new takes
     x =
-    takes_nothing about given rows start arrivals s t turns noted old new hint_old hint_new takes x
+    takes_one about given rows start arrivals s t turns noted old new tx hint_old hint_new takes x
+takes_go_on about given rows start arrivals s t false turns noted old new tx hint_old hint_new takes
+    x =
+    takes_nothing about given rows start arrivals s t turns noted old new tx hint_old hint_new takes
+    x
 
 -- ---- replying
 
@@ -333,7 +341,8 @@ kept_grow queues late (Some id) old new queue queued none = steps_one _ old new 
 module _ (given : Setup) (rows start : ℕ) (arrivals late : List Arrival) (s t : Server)
     (turns : List (StepBy Turn)) (noted : List (StepBy Note)) (rx : List BoardStep)
     (old new : BoardSeatView) (hint_old hint_new : Hint)
-    (x : IsReplying given rows start arrivals s turns noted rx hint_old.steps) where
+    (x : IsReplying given rows start arrivals s turns noted rx old.steps hint_old.steps)
+    (tx_grow : Grows old.steps new.steps) where
   keeps_on : KeepsHand (length given.homes) late s t old new hint_old hint_new
       → Explained old.steps turns
       → RepliesOn given rows start arrivals s t turns noted rx new hint_new
@@ -343,10 +352,10 @@ module _ (given : Setup) (rows start : ℕ) (arrivals late : List Arrival) (s t 
         grow = inl refl;
         explained = applications_explain.keeps (length given.homes) late s t old new hint_old
             hint_new keeps turns explained;
-        keeps = subst (λ z. IsReplying given rows start arrivals z turns noted rx hint_new.steps)
-            (sym keeps.same)
-            (servers_stay given rows start arrivals s turns turns noted noted rx rx hint_old.steps
-            hint_new.steps refl refl (grows_same rx rx refl)
+        keeps = subst (λ z. IsReplying given rows start arrivals z turns noted rx new.steps
+            hint_new.steps) (sym keeps.same)
+            (servers_stay given rows start arrivals s turns turns noted noted rx rx old.steps
+            new.steps hint_old.steps hint_new.steps refl refl (grows_same rx rx refl) tx_grow
             (kept_grow (length given.homes) late s.hand hint_old hint_new keeps.queue keeps.hint
             keeps.untouched) x);
       }
@@ -367,10 +376,11 @@ module _ (given : Setup) (rows start : ℕ) (arrivals late : List Arrival) (s t 
         hint_new) x.table replied.replies
 
     abbrev words : (w : ℕ → ℕ) × ((tx : ℕ) → tx < given.txs
-        → AreRead given.cpus (length given.homes) given.txs by_table.maps turn.early w tx)
+        → AreRead given.cpus (length given.homes) given.txs by_table.maps new.steps
+        (openings_in turn.word) w tx)
     words =
-        words_of given.cpus (length given.homes) given.txs by_table.maps turn.early given.txs
-        (omega arith) by_table.reads
+        words_of given.cpus (length given.homes) given.txs by_table.maps new.steps
+        (openings_in turn.word) given.txs (omega arith) by_table.reads
 
     abbrev replied_turn : RepliedTurn
     replied_turn = record { turn = turn; sent = sent; words = words.0 }
@@ -386,8 +396,7 @@ module _ (given : Setup) (rows start : ℕ) (arrivals late : List Arrival) (s t 
         grows_both hint_old.steps replied.hint_mid.steps hint_new.steps queue_grow stand_grow
 
     is_replied : IsReplied rows start given s.sent.room s.app s.home arrivals hint_new.steps
-        x.replied
-        replied_turn
+        new.steps x.replied replied_turn
     is_replied =
         record {
           within = subst (λ h. IfSome h (λ id. id < s.sent.room)) replied.hand is.hand;
@@ -424,7 +433,7 @@ module _ (given : Setup) (rows start : ℕ) (arrivals late : List Arrival) (s t 
       sent = grown s.sent sent;
       choices = grown s.choices turn.chosen;
       kept = t.kept;
-    }) (step_by s.app turn ∷ turns) noted rx hint_new.steps
+    }) (step_by s.app turn ∷ turns) noted rx new.steps hint_new.steps
     keeps_more =
         record {
           replied = replied_turn ∷ x.replied;
@@ -446,8 +455,7 @@ module _ (given : Setup) (rows start : ℕ) (arrivals late : List Arrival) (s t 
           are = (
             is_replied,
             all_later rows start given s.sent.room s.app s.home arrivals hint_old.steps
-                hint_new.steps
-                hints_more x.replied x.are,
+                hint_new.steps old.steps new.steps hints_more tx_grow x.replied x.are,
           );
         }
 
@@ -460,7 +468,7 @@ module _ (given : Setup) (rows start : ℕ) (arrivals late : List Arrival) (s t 
           explained = applications_explain.replies given s.app s.home sent s.table t.table turn
               old new replied.hint_mid hint_new replied.replies turns explained;
           keeps = subst (λ z. IsReplying given rows start arrivals z (step_by s.app turn ∷ turns)
-              noted rx hint_new.steps)
+              noted rx new.steps hint_new.steps)
               (sym (replied.same ∙ (λ i. record s {
                 hand = None;
                 table = t.table;
@@ -474,9 +482,10 @@ module _ (given : Setup) (rows start : ℕ) (arrivals late : List Arrival) (s t 
 pub replies_go_on : RepliesGoOn
 replies_go_on given rows start arrivals late s t true turns noted rx old new hint_old hint_new
     replied is known explained x =
-    replies_on given rows start arrivals late s t turns noted rx old new hint_old hint_new x replied
-    is known explained
+    replies_on given rows start arrivals late s t turns noted rx old new hint_old hint_new x
+    (adds_grow (visit_with replied.turn [] []) old new replied.replies.adds) replied is known
+    explained
 replies_go_on given rows start arrivals late s t false turns noted rx old new hint_old hint_new
     keeps is known explained x =
-    keeps_on given rows start arrivals late s t turns noted rx old new hint_old hint_new x keeps
-    explained
+    keeps_on given rows start arrivals late s t turns noted rx old new hint_old hint_new x
+    (gate_grow old new (without_reasons keeps.gate)) keeps explained

@@ -1,15 +1,17 @@
 -- The maps of the transmit queues (kernel scaling chapter, section XPS) that an application keeps
 -- from reply to reply.
-use Rattle.std.specs.Prelude.{◌≡◌, ℕ, ◌<◌, ◌≤◌, List, length, slice_index, slice_index_or}
+use Rattle.std.specs.Prelude.{◌≡◌, ℕ, ◌<◌, ◌≤◌, List, Option, length, slice_index, slice_index_or}
 use Rattle.std.specs.Prelude.{slice_set}
 use Rattle.xps_map.specs.Maps.{Maps, no_cpus}
 use Rattle.run_words.specs.Values.{cpus_in, queues_in}
 
--- The maps, and the numbers of processors and of receive queues of which their words are.
+-- The maps, the numbers of processors and of receive queues of which their words are, and the
+-- number of the visits in which all of them are known, if there is one.
 pub record Kept : Type 0 where
   pub cpus : ℕ
   pub queues : ℕ
   pub maps : Maps
+  pub visit : Option ℕ
 
 -- Of so many processors, receive queues and transmit queues the maps are what these words say.
 pub record IsByWords (cpus queues txs : ℕ) (cpu_words queue_words : List ℕ) (maps : Maps)

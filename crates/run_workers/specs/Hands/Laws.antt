@@ -115,7 +115,7 @@ pub record StaysApplication (s t : Server) (old new : BoardSeatView)
   pub number : new.number ≡ old.number
   pub hint_table : hint_new.table ≡ hint_old.table
 
--- Each call of an application leaves these.
+-- Each call of an application leaves these, and a taking its maps.
 pub record ApplicationsStay : Type 0 where
   pub takes : (about : BoardSizes) (given : Setup) (s t : Server) (took : Bool)
       (old new : BoardSeatView) (hint_old hint_new : SeatView HintStep)
@@ -125,3 +125,6 @@ pub record ApplicationsStay : Type 0 where
       (old new : BoardSeatView) (hint_old hint_new : SeatView HintStep)
       → RepliesOrKeeps given late s t old new hint_old hint_new sent
       → StaysApplication s t old new hint_old hint_new
+  pub maps : (about : BoardSizes) (given : Setup) (s t : Server) (took : Bool)
+      (old new : BoardSeatView) (hint_old hint_new : SeatView HintStep)
+      → TakesOrLeaves about given s t old new hint_old hint_new took → t.kept ≡ s.kept

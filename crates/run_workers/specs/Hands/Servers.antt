@@ -19,7 +19,8 @@ use Rattle.dev_flow_table.specs.Folds.{after_turn, table_after}
 use Rattle.dev_flow_table.specs.Tables.{Table, entries, weighed}
 use Rattle.xps_map.specs.Maps.{Maps, no_cpus, picked}
 use Rattle.hint_words.specs.declared.step.HintStep.TheVariants.{Load, Store}
-use Rattle.hop_rule.specs.Boards.{out_slot}
+use Rattle.hop_rule.specs.Boards.{gate_steps, out_slot}
+use Rattle.hop_rule.specs.Gates.{visit_number}
 use Rattle.hop_rule.specs.OutLanes.{OutList}
 use Rattle.hop_rule.specs.declared.sizes.BoardSizes.{BoardSizes}
 use Rattle.hop_rule.specs.declared.step.BoardStep.{BoardStep}
@@ -27,8 +28,9 @@ use Rattle.hop_rule.specs.declared.step.BoardStep.TheVariants.{Gate, Lane, LaneI
 use Rattle.hop_rule.specs.declared.step.GateStep.TheVariants.{Entered, Left, Read, Turned}
 use Rattle.hop_rule.specs.declared.step.LaneStep.TheVariants.{OutFreed, OutHeld, OutMissed}
 use Rattle.board_api.specs.Calls.Results.{TookOut}
+use Rattle.board_api.specs.OwnSteps.{ReadsIn}
 use Rattle.board_api.specs.Seats.{BoardSeatView, Adds}
-use Rattle.board_api.specs.StepWords.{is_marked, is_odd, tail_in}
+use Rattle.board_api.specs.StepWords.{is_marked, is_odd, openings_in, tail_in}
 use Rattle.hop_delivery.specs.Orders.Turns.{AreQuiet, Turn, visit_with}
 use Rattle.steer_model.specs.State.Setup.{Setup, flow_number_of, packet_hash}
 use Rattle.run_words.specs.HintViews.{HintView, after_step}
@@ -37,7 +39,7 @@ use Rattle.run_words.specs.Values.{cpus_in, place_in, place_word, queues_in, soc
 use Rattle.run_words.specs.declared.hint_word.HintWord.TheVariants as word
 use Rattle.run_words.specs.declared.hint_word.TheConstants.{STAND_WORDS}
 use Rattle.run_workers.specs.Hands.Deltas.{HoldsNoMore, LeavesLane, OnlyServes, Serves, no_lane}
-use Rattle.run_workers.specs.Hands.KeptMaps.{with_map}
+use Rattle.run_workers.specs.Hands.KeptMaps.{Kept, with_map}
 use Rattle.run_workers.specs.Hands.Pollers.{HasLanesBelow, LoadedHead, LoadsHead, as_told, put_of}
 use Rattle.run_workers.specs.declared.server.Server.{Server}
 
@@ -188,16 +190,32 @@ Queued queues id late old new queue =
 
 -- ---- the maps
 
--- The two words of a transmit queue, of so many, were read among these steps, and the maps have
--- what they say.
-pub record MapRead (cpus queues count tx : ℕ) (maps : Maps) (steps : List BoardStep)
+-- A seat with these steps read the two words of a transmit queue, of so many, in visits of this
+-- number, and the maps have what they say.
+pub record MapRead (cpus queues count tx : ℕ) (maps : Maps) (own : List BoardStep) (number : ℕ)
     : Type 0 where
   pub cpu_word : ℕ
   pub queue_word : ℕ
-  pub reads_cpus : Contains steps (Gate (Read tx cpu_word))
-  pub reads_queues : Contains steps (Gate (Read (count + tx) queue_word))
+  pub reads_cpus : ReadsIn own number tx cpu_word
+  pub reads_queues : ReadsIn own number (count + tx) queue_word
   pub cpus_are : slice_index_or maps.cpus tx no_cpus ≡ cpus_in cpu_word cpus
   pub queues_are : slice_index maps.queues tx ≡ queues_in queue_word queues
+
+-- A seat with these steps read the words of the first n transmit queues in visits of this number,
+-- and the maps, which are for all of them, have what they say.
+pub record HasMaps (given : Setup) (n : ℕ) (maps : Maps) (own : List BoardStep) (number : ℕ)
+    : Type 0 where
+  pub reads : (tx : ℕ) → tx < n
+      → MapRead given.cpus (length given.homes) given.txs tx maps own number
+  pub count : maps.count ≡ given.txs
+  pub cpu_sets : length maps.cpus ≡ given.txs
+  pub queue_sets : length maps.queues ≡ given.txs
+
+-- The maps that an application keeps were read by its seat, with these steps at the transmit board,
+-- in visits of the number that it keeps, if it keeps one.
+abbrev pub KeepsMaps : Setup → Kept → List BoardStep → Type 0
+KeepsMaps given kept own =
+    IfSome kept.visit (λ number. HasMaps given given.txs kept.maps own number)
 
 -- ---- the reply
 
@@ -213,7 +231,8 @@ ReadsMap given tx before after old new =
     × Adds (Gate (Read (given.txs + tx) queue_word) ∷ Gate (Read tx cpu_word) ∷ []) old new
     × (after ≡ with_map given.cpus (length given.homes) before tx cpu_word queue_word)
 
--- The words of the first n transmit queues were read, and nothing else was done.
+-- A seat in a visit knows the words of the first n transmit queues: it read them in this visit, or
+-- in one with the same number. It did nothing else.
 pub record MapsRead (given : Setup) (n : ℕ) (maps : Maps) (old new : BoardSeatView)
     : Type 0 where
   pub added : List BoardStep
@@ -221,11 +240,7 @@ pub record MapsRead (given : Setup) (n : ℕ) (maps : Maps) (old new : BoardSeat
   pub quiet : AreQuiet added
   pub holds : HoldsNoMore added
   pub leaves : (l : ℕ) → LeavesLane l added
-  pub reads : (tx : ℕ) → tx < n
-      → MapRead given.cpus (length given.homes) given.txs tx maps added
-  pub count : maps.count ≡ given.txs
-  pub cpu_sets : length maps.cpus ≡ given.txs
-  pub queue_sets : length maps.queues ≡ given.txs
+  pub has : HasMaps given n maps new.steps (visit_number (gate_steps old.steps))
 
 -- A lane for a packet of this flow was chosen by the migration rule over this table, with the pick
 -- as the desired lane and no lane offline. The head that the rule looks at was loaded.
@@ -248,7 +263,7 @@ pub record PutsReply (given : Setup) (id : ℕ) (choice : Choice) (answer : Put)
   pub adds : Adds (put_of given choice.lane id answer ∷ early) old new
   pub table : after ≡ table_after before choice.class (Some answer)
 
--- A reply was made, in a visit: all maps were read, the choice was made by the pick of these, and
+-- A reply was made, in a visit: all maps were known, the choice was made by the pick of these, and
 -- the packet was put there.
 pub record Sends (given : Setup) (sent : Sent) (choice : Choice) (before after : Table)
     (old new : BoardSeatView) : Type 0 where
@@ -263,8 +278,8 @@ pub record Sends (given : Setup) (sent : Sent) (choice : Choice) (before after :
   pub puts : PutsReply given sent.id choice answer between after mid new
 
 -- The seat made one visit of the transmit board with one put, as this turn says, and what the turn
--- says is by the maps that were read in the visit, the application's processor, and the head that
--- was loaded in the visit.
+-- says is by the maps that were read in visits of its number, the application's processor, and the
+-- head that was loaded in the visit.
 pub record Replies (given : Setup) (app home : ℕ) (sent : Sent) (before after : Table)
     (turn : Turn) (old new : BoardSeatView) (hint_old hint_new : HintView) : Type 0 where
   pub adds : Adds (visit_with turn [] []) old new
@@ -277,7 +292,7 @@ pub record Replies (given : Setup) (app home : ℕ) (sent : Sent) (before after 
   pub maps : Maps
   pub count : maps.count ≡ given.txs
   pub reads : (tx : ℕ) → tx < given.txs
-      → MapRead given.cpus (length given.homes) given.txs tx maps turn.early
+      → MapRead given.cpus (length given.homes) given.txs tx maps new.steps (openings_in turn.word)
   pub stands : Stands given.cpus app home hint_old hint_new sent.cpu
   pub head : Option ℕ
   pub loads : IfSome head (LoadedHead before (Some (flow_number_of given sent.id)) turn.early)

@@ -22,6 +22,8 @@ use Rattle.hop_rule.specs.declared.step.BoardStep.{BoardStep}
 use Rattle.hop_rule.specs.declared.step.BoardStep.TheVariants.{Gate, Lane}
 use Rattle.hop_rule.specs.declared.step.GateStep.TheVariants.{Read}
 use Rattle.hop_rule.specs.declared.step.LaneStep.TheVariants.{OutHeld}
+use Rattle.board_api.specs.OwnSteps.{ReadsIn}
+use Rattle.board_api.specs.StepWords.{openings_in}
 use Rattle.hop_delivery.specs.Orders.Turns.{Turn}
 use Rattle.steer_model.specs.State.Setup.{Setup, flow_number_of, packet_hash}
 use Rattle.run_words.specs.Numbers.{hint_number}
@@ -36,8 +38,8 @@ use Rattle.run_workers.specs.Records.Growth.{held}
 use Rattle.run_workers.specs.Records.Polling.{choices_in}
 use Rattle.run_workers.specs.Records.Words.{Note}
 
--- A turn of an application, the reply, and the values of the setting words that were read in its
--- visit.
+-- A turn of an application, the reply, and the values of the setting words that were read in visits
+-- of its number.
 pub record RepliedTurn : Type 0 where
   pub turn : Turn
   pub sent : Sent
@@ -110,24 +112,24 @@ module _ (rows start : ℕ) where
   replied_table (r ∷ rs) = after_turn (replied_table rs) (as_told r.turn)
 
   module _ (given : Setup) (packets app home : ℕ) (arrivals : List Arrival)
-      (hints : List HintStep) where
-    -- A turn after these was by the maps that were read in its visit, by the packet's queue and the
-    -- application's processor as they were loaded, and by the head that was loaded: its choice is
-    -- the rule's for these, and the packet was put with its hash.
+      (hints : List HintStep) (tx : List BoardStep) where
+    -- A turn after these was by the maps that were read in visits of its number, by the packet's
+    -- queue and the application's processor as they were loaded, and by the head that was loaded:
+    -- its choice is the rule's for these, and the packet was put with its hash.
     pub record IsReplied (rs : List RepliedTurn) (r : RepliedTurn) : Type 0 where
       pub within : r.sent.id < packets
       pub id_is : r.turn.chosen.id ≡ r.sent.id
       pub hash : r.turn.hash ≡ packet_hash given r.sent.id
-      pub cpu_reads : (tx : ℕ) → tx < given.txs
-          → Contains r.turn.early (Gate (Read tx (r.words tx)))
-      pub queue_reads : (tx : ℕ) → tx < given.txs
-          → Contains r.turn.early (Gate (Read (given.txs + tx) (r.words (given.txs + tx))))
+      pub cpu_reads : (n : ℕ) → n < given.txs
+          → ReadsIn tx (openings_in r.turn.word) n (r.words n)
+      pub queue_reads : (n : ℕ) → n < given.txs
+          → ReadsIn tx (openings_in r.turn.word) (given.txs + n) (r.words (given.txs + n))
       pub maps : Maps
       pub count : maps.count ≡ given.txs
-      pub cpus_are : (tx : ℕ) → tx < given.txs
-          → slice_index_or maps.cpus tx no_cpus ≡ cpus_in (r.words tx) given.cpus
-      pub queues_are : (tx : ℕ) → tx < given.txs
-          → slice_index maps.queues tx ≡ queues_in (r.words (given.txs + tx)) (length given.homes)
+      pub cpus_are : (n : ℕ) → n < given.txs
+          → slice_index_or maps.cpus n no_cpus ≡ cpus_in (r.words n) given.cpus
+      pub queues_are : (n : ℕ) → n < given.txs
+          → slice_index maps.queues n ≡ queues_in (r.words (given.txs + n)) (length given.homes)
       pub stood : HasStood given.cpus app home hints r.sent.cpu
       pub came : HasCome (length given.homes) arrivals hints r.sent.id r.sent.rxq
       pub head : Option ℕ
@@ -148,12 +150,12 @@ module _ (rows start : ℕ) where
     EachReplied (r ∷ rs) = IsReplied rs r × EachReplied rs
 
 -- What an application keeps of its packets and of its turns, which are among those that explain its
--- seat's list at the transmit board, by the steps of its seats at the receive board and at the hint
+-- seat's list at the transmit board, by the steps of its seats at both boards and at the hint
 -- words. It found each packet at its place in the inbox, wrote for each, which are its notes among
 -- those of the seat, and replied to each but the one in hand; the journals and the flow table are
 -- those of the turns.
 pub record IsReplying (given : Setup) (rows start : ℕ) (arrivals : List Arrival) (s : Server)
-    (turns : List (StepBy Turn)) (noted : List (StepBy Note)) (rx : List BoardStep)
+    (turns : List (StepBy Turn)) (noted : List (StepBy Note)) (rx tx : List BoardStep)
     (hints : List HintStep) : Type 0 where
   pub replied : List RepliedTurn
   pub own : reply_turns replied ≡ steps_of s.app turns
@@ -164,4 +166,4 @@ pub record IsReplying (given : Setup) (rows start : ℕ) (arrivals : List Arriva
   pub notes : HasWrittenAll given s.app s.home rx hints (taken_by s)
       (oldest_first (steps_of s.app noted))
   pub writes : s.writes.items ≡ map (λ (n : Note). n.write) (oldest_first (steps_of s.app noted))
-  pub are : EachReplied rows start given s.sent.room s.app s.home arrivals hints replied
+  pub are : EachReplied rows start given s.sent.room s.app s.home arrivals hints tx replied

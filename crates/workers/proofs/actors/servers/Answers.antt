@@ -41,6 +41,7 @@ loop-app-preserved c =
             sent = m.sent;
             choices = m.choices;
             writes = m.writes;
+            kept = m.kept;
             is = m.is;
           }));
     }

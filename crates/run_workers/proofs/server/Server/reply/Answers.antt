@@ -1,6 +1,28 @@
 use Rattle.run_workers.proofs.Names.{ap, ◌∙◌, gate_steps, closed, visit, Sent, BoardSeatView}
 use Rattle.run_workers.proofs.Hands.ReplyLemmas.{replies, reply_turn, sends_inside, sends_open}
+use Rattle.run_workers.proofs.Names.{[], ◌∷◌, Gate, Entered, Left, Turned}
+use Rattle.run_workers.proofs.Hands.MapLemmas.{maps_later}
 use Rattle.run_workers.proofs.server.Server.reply.Goals as goal
+
+pub send-requires-clause-kept : goal.send-requires-clause-kept
+send-requires-clause-kept g c =
+    maps_later c.args.seat.now.steps c.enter.new.seat.steps
+    (Gate (Entered c.in-Ok.ensures.step.0) ∷ [],
+    ap (λ (s : BoardSeatView). s.steps) c.in-Ok.ensures.step.2)
+    c.args.shared.now.given c.args.self.now.kept c.requires.kept
+
+pub returns-in-Ok-clause-kept : goal.returns-in-Ok-clause-kept
+returns-in-Ok-clause-kept g c =
+    maps_later c.send.new.seat.steps c.leave.new.seat.steps
+    (Gate Left ∷ [], ap (λ (s : BoardSeatView). s.steps) c.leave.ensures)
+    c.args.shared.now.given c.send.new.self.kept c.send.ensures.kept
+
+pub returns-in-Closed-clause-kept : goal.returns-in-Closed-clause-kept
+returns-in-Closed-clause-kept g c =
+    maps_later c.args.seat.now.steps c.enter.new.seat.steps
+    (Gate Left ∷ Gate (Turned _) ∷ [], ap (λ (s : BoardSeatView). s.steps)
+    c.in-Closed.ensures.step.1)
+    c.args.shared.now.given c.args.self.now.kept c.requires.kept
 
 pub leave-requires-clause-inside : goal.leave-requires-clause-inside
 leave-requires-clause-inside g c =

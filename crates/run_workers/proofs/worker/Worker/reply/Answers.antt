@@ -19,6 +19,7 @@ reply-requires g c =
       settings = c.requires.is.sizes.maps;
       room = reply_room _ c.args.self.now c.args.seats.now c.requires.is c.args.i _ at;
       is = at.is;
+      kept = at.maps;
     }
 
 pub returns : goal.returns
@@ -33,7 +34,7 @@ returns g c =
     record {
       goes = reply_goes_on _ c.args.self.now _ c.args.seats.now _ c.args.i c.index_mut.result.now
           c.reply.new.self c.reply.result refl refl refl refl refl there c.requires.is replies
-          c.reply.ensures.is c.reply.ensures.outside c.reply.ensures.open;
+          c.reply.ensures.is c.reply.ensures.kept c.reply.ensures.outside c.reply.ensures.open;
       one = record {
         x = c.index_mut.result.now;
         y = c.reply.new.self;
