@@ -5,6 +5,7 @@ pub mod KeptLemmas
 pub mod StopLemmas
 pub mod PollerLemmas
 pub mod PutLemmas
+pub mod ReadLemmas
 pub mod ReplyLemmas
 pub mod ServerLaws
 pub mod ServerLemmas
