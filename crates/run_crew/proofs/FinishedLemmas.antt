@@ -11,7 +11,7 @@ use Rattle.run_crew.proofs.Names.{Option, Some, None, length, sym, refl, ap, ◌
 use Rattle.run_crew.proofs.Names.{length-map, StepBy, steps_of, Put, At, Dropped, HintStep, Turn}
 use Rattle.run_crew.proofs.Names.{sum_below, sum_same, oldest_first, Setup, actor_at, IsPolling}
 use Rattle.run_crew.proofs.Names.{PolledTurn, Mark, StageView, Poller, IsFull, actor_of, played}
-use Rattle.run_crew.proofs.Names.{AreWorking, pollers_of, ships_of, Seated}
+use Rattle.run_crew.proofs.Names.{BoardStep, AreWorking, pollers_of, ships_of, Seated}
 use Rattle.run_crew.proofs.ChoiceFunctions.{item-at, none-some}
 use Rattle.run_crew.proofs.DealtSumLemmas.{dealt-sum, sum_by-plus}
 use Rattle.run_crew.proofs.ExecutionLemmas.{actor-is}
@@ -32,10 +32,10 @@ accepted-few (s ∷ ss) =
 
 -- no more packets were accepted than were chosen for
 accepted-within : (given : Setup) (first start : ℕ) (p : Poller) (turns : List (StepBy Turn))
-    (marks : List (StepBy Mark)) (hints : List HintStep)
-    → IsPolling given first start p turns marks hints
+    (marks : List (StepBy Mark)) (rx : List BoardStep) (hints : List HintStep)
+    → IsPolling given first start p turns marks rx hints
     → p.accepted ≤ length p.choices.items
-accepted-within given first start p turns marks hints x =
+accepted-within given first start p turns marks rx hints x =
     let own = steps_of p.queue turns in
     let few = accepted-few x.polled in
     let accepted = x.accepted in
@@ -93,7 +93,7 @@ module _ (t : StageView) (crew : List Seated) (queues apps : ℕ)
   balanced w k None (Some p) there is = none-some p is
   balanced w k (Some x) (Some p) there is =
       let y = are.work w x there in
-      let few = accepted-within t.shared.given _ _ p _ _ _ (y.pollers k p is).keeps in
+      let few = accepted-within t.shared.given _ _ p _ _ _ _ (y.pollers k p is).keeps in
       omega (arith, few)
 
   dropped-all : sum_below (λ q. dropped_of (played crew pollers_of q)) Q

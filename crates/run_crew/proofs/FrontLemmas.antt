@@ -22,7 +22,7 @@ append-none [] = refl
 append-none (x ∷ xs) = ap (λ ys. x ∷ ys) (append-none xs)
 
 pub fronts_are_chosen : FrontsAreChosen
-fronts_are_chosen given first start p turns marks hints arrivals left x hand came low = (
+fronts_are_chosen given first start p turns marks rx hints arrivals left x hand came low = (
   ring_packets p.choices.room left,
   ap (λ xs. xs ++ ring_packets p.choices.room left)
       (sym (append-none (map (λ (c : Chosen). c.id) p.choices.items))

@@ -15,15 +15,16 @@ use Rattle.run_crew.proofs.Names.{◌≡◌, ◌≢◌, ℕ, suc, ◌≤◌, ◌
 use Rattle.run_crew.proofs.Names.{◌++◌, Option, None, Some, if◌then◌else◌, length, map, drop, sym}
 use Rattle.run_crew.proofs.Names.{refl, ap, ◌∙◌, arith, fold, length-map, Choice, Put, At, Dropped}
 use Rattle.run_crew.proofs.Names.{after_turn, Table, cleared, since_resize, if_same, if_other}
-use Rattle.run_crew.proofs.Names.{HintStep, Setup, oldest_first, PolledTurn, turns_in}
+use Rattle.run_crew.proofs.Names.{BoardStep, HintStep, Setup, oldest_first, PolledTurn, turns_in}
 use Rattle.run_crew.proofs.TurnListLemmas.{length_turned, since_more}
 
 -- ---- a turn among all
 
-module _ (first start : ℕ) (given : Setup) (packets q : ℕ) (hints : List HintStep) where
+module _ (first start : ℕ) (given : Setup) (packets q : ℕ) (rx : List BoardStep)
+    (hints : List HintStep) where
   pub all_at : (newer : List PolledTurn) (s : PolledTurn) (older : List PolledTurn)
-      → AllPolled first start given packets q hints (newer ++ s ∷ older)
-      → IsPolled first start given packets q hints older s
+      → AllPolled first start given packets q rx hints (newer ++ s ∷ older)
+      → IsPolled first start given packets q rx hints older s
   all_at [] s older all = all.0
   all_at (x ∷ newer) s older all = all_at newer s older all.1
 

@@ -6,7 +6,8 @@ use Rattle.std.proofs.lemmas.List.{length-replicate}
 use Rattle.steer_base.specs.Choices.{rps_choice_of}
 use Rattle.steer_base.specs.Counters.{rounded_up}
 use Rattle.dev_flow_table.specs.Tables.{IsClassOf, entries, unset}
-use Rattle.hop_rule.specs.declared.step.GateStep.TheVariants.{Read}
+use Rattle.board_api.specs.OwnSteps.{ReadsIn}
+use Rattle.board_api.specs.StepWords.{openings_in}
 use Rattle.hop_rule.proofs.Moments.{nth-between}
 use Rattle.hop_delivery.specs.Closings.TurnReads.{HasSeen, Knows}
 use Rattle.hop_delivery.specs.Orders.ReceiveSettings.{Queues, mask, online, receive_steering, rps}
@@ -29,7 +30,7 @@ use Rattle.run_crew.proofs.Names.{length, map, take, drop, sym, refl, ap, ◌∙
 use Rattle.run_crew.proofs.Names.{slice_index, unwrap_or, Contains, fold, lt-ltb, All-head}
 use Rattle.run_crew.proofs.Names.{All-tail, StepBy, SeatView, if_same, if_other, class_of}
 use Rattle.run_crew.proofs.Names.{looks_at_head, migrate, has, Choice, after_turn, Table, cleared}
-use Rattle.run_crew.proofs.Names.{since_resize, HintStep, nth_step, BoardSizes, BoardStep, Gate}
+use Rattle.run_crew.proofs.Names.{since_resize, HintStep, nth_step, BoardSizes, BoardStep}
 use Rattle.run_crew.proofs.Names.{Weighed, none-some, some-is, nth-first, nth-inside, Execution}
 use Rattle.run_crew.proofs.Names.{turns_of, Turn, Input, setup_in, Setup, packet_hash, Poller}
 use Rattle.run_crew.proofs.Names.{AreShared, HintCodes, oldest_first, IsPolling, PolledTurn}
@@ -99,15 +100,16 @@ of_nth P (z ∷ zs) k s all at = elim (nth-first z zs k s at) [
 ]
 
 -- the looks of turns are steps in their order
-looks_rise : (first start : ℕ) (given : Setup) (packets q : ℕ) (hints : List HintStep)
-    (ss : List PolledTurn) → AllPolled first start given packets q hints ss
+looks_rise : (first start : ℕ) (given : Setup) (packets q : ℕ) (rx : List BoardStep)
+    (hints : List HintStep) (ss : List PolledTurn)
+    → AllPolled first start given packets q rx hints ss
     → (j k m n : ℕ) → j < k → look_of (nth_step ss j) ≡ Some m
     → look_of (nth_step ss k) ≡ Some n → m < n
-looks_rise first start given packets q hints [] all j k m n less a b = none-some m a
-looks_rise first start given packets q hints (s ∷ ss) all j k m n less a b =
+looks_rise first start given packets q rx hints [] all j k m n less a b = none-some m a
+looks_rise first start given packets q rx hints (s ∷ ss) all j k m n less a b =
     let x = look_inside (nth_step (s ∷ ss) j) m a in
     let y = look_inside (nth_step (s ∷ ss) k) n b in
-    by_last (looks_rise first start given packets q hints ss all.1 j k m n less) x
+    by_last (looks_rise first start given packets q rx hints ss all.1 j k m n less) x
     (nth-first s ss j x.0 x.1) y (nth-first s ss k y.0 y.1)
   where
     by_last : (look_of (nth_step ss j) ≡ Some m → look_of (nth_step ss k) ≡ Some n → m < n)
@@ -138,16 +140,17 @@ abbrev mark_in : PolledTurn → Mark
 mark_in s = record { packet = s.turn.chosen.id; number = s.mark }
 
 -- the looks of a turn and of earlier ones come before its mark
-looks_before : (first start : ℕ) (given : Setup) (packets q : ℕ) (hints : List HintStep)
-    (ss : List PolledTurn) → AllPolled first start given packets q hints ss
+looks_before : (first start : ℕ) (given : Setup) (packets q : ℕ) (rx : List BoardStep)
+    (hints : List HintStep) (ss : List PolledTurn)
+    → AllPolled first start given packets q rx hints ss
     → (j k m : ℕ) (z : PolledTurn) → j ≤ k → look_of (nth_step ss j) ≡ Some m
     → nth_step ss k ≡ Some z → m < z.mark
-looks_before first start given packets q hints [] all j k m z le look at = none-some m look
-looks_before first start given packets q hints (s ∷ ss) all j k m z le look at =
+looks_before first start given packets q rx hints [] all j k m z le look at = none-some m look
+looks_before first start given packets q rx hints (s ∷ ss) all j k m z le look at =
     let x = look_inside (nth_step (s ∷ ss) j) m look in
-    by_last (λ old_look old. looks_before first start given packets q hints ss all.1 j k m z le
+    by_last (λ old_look old. looks_before first start given packets q rx hints ss all.1 j k m z le
     old_look old)
-    (λ w old_look old. looks_before first start given packets q hints ss all.1 j j m w
+    (λ w old_look old. looks_before first start given packets q rx hints ss all.1 j j m w
     (omega arith) old_look old)
     x (nth-first s ss j x.0 x.1) (nth-first s ss k z at)
   where
@@ -178,7 +181,8 @@ looks_before first start given packets q hints (s ∷ ss) all j k m z le look at
 module _ (i : Input) (about : BoardSizes) (own : List BoardStep) (c : HintCodes)
     (seats : List (SeatView HintStep)) (seat : SeatView HintStep) (t : Execution) (first : ℕ)
     (p : Poller) (marks : List (StepBy Mark))
-    (x : IsPolling (setup_in i) first about.start p (t.turns (t.seat p.queue)) marks seat.steps)
+    (x : IsPolling (setup_in i) first about.start p (t.turns (t.seat p.queue)) marks own
+    seat.steps)
     (hashes : FlowsHaveOneHash i) (few : p.choices.room ≤ length i.packets)
     (less : p.queue < length (setup_in i).homes) where
   abbrev given : Setup
@@ -206,11 +210,11 @@ module _ (i : Input) (about : BoardSizes) (own : List BoardStep) (c : HintCodes)
 
   is_polled : (a : List PolledTurn) (s : PolledTurn) (b : List PolledTurn)
       → x.polled ≡ a ++ s ∷ b
-      → IsPolled first about.start given p.choices.room p.queue seat.steps b s
+      → IsPolled first about.start given p.choices.room p.queue own seat.steps b s
   is_polled a s b are =
-      all_at first about.start given p.choices.room p.queue seat.steps a s b
-      (subst (λ zs. AllPolled first about.start given p.choices.room p.queue seat.steps zs) are
-      x.are)
+      all_at first about.start given p.choices.room p.queue own seat.steps a s b
+      (subst (λ zs. AllPolled first about.start given p.choices.room p.queue own seat.steps zs)
+      are x.are)
 
   -- the words that a turn has seen
   seen_is : (a : List PolledTurn) (s : PolledTurn) (b : List PolledTurn) (word : ℕ)
@@ -235,7 +239,7 @@ module _ (i : Input) (about : BoardSizes) (own : List BoardStep) (c : HintCodes)
   module _ (a : List PolledTurn) (s : PolledTurn) (b : List PolledTurn)
       (are : x.polled ≡ a ++ s ∷ b)
       (fit : FitReceiveWords q i.plan.cpus p.queue (seen (length b))) where
-    abbrev y : IsPolled first about.start given p.choices.room p.queue seat.steps b s
+    abbrev y : IsPolled first about.start given p.choices.room p.queue own seat.steps b s
     y = is_polled a s b are
 
     abbrev count : ℕ
@@ -413,14 +417,14 @@ module _ (i : Input) (about : BoardSizes) (own : List BoardStep) (c : HintCodes)
             (packet_hash given v.0.chosen.id)) (look_of (nth_step x.polled v.1))
             v.0.chosen.choice.want)
             (λ j. (z.turn_is j, z.before j)) (was_looked z.newer z.s z.older z.are));
-        order = looks_rise first about.start given p.choices.room p.queue seat.steps x.polled
+        order = looks_rise first about.start given p.choices.room p.queue own seat.steps x.polled
             x.are;
         mark = λ k. mark_of (nth_step x.polled k);
         before = λ j k m u le is look. (let z = at k u is in
             let there = nth_is z.newer z.s z.older z.are k z.before in
             subst (λ n. m < n) (sym (ap mark_of there))
-            (looks_before first about.start given p.choices.room p.queue seat.steps x.polled x.are
-            j k m z.s le look there));
+            (looks_before first about.start given p.choices.room p.queue own seat.steps x.polled
+            x.are j k m z.s le look there));
       };
     },
     λ within. record {
@@ -445,11 +449,11 @@ module _ (i : Input) (about : BoardSizes) (own : List BoardStep) (c : HintCodes)
       reads_of : (a : List PolledTurn) (s : PolledTurn) (b : List PolledTurn)
           (are : x.polled ≡ a ++ s ∷ b) (word value : ℕ)
           → words_read queues p.queue s.reading word ≡ value
-          → Contains s.turn.early (Gate (Read word value))
+          → ReadsIn own (openings_in s.turn.word) word value
           → Knows own s.turn word (seen (length b) word)
-      reads_of a s b are word value is has =
-          inl (subst (λ n. Contains s.turn.early (Gate (Read word n)))
-          (sym (seen_is a s b word are ∙ is)) has)
+      reads_of a s b are word value is read =
+          inr (subst (ReadsIn own (openings_in s.turn.word) word)
+          (sym (seen_is a s b word are ∙ is)) read)
 
       knows_it : (a : List PolledTurn) (s : PolledTurn) (b : List PolledTurn)
           → x.polled ≡ a ++ s ∷ b → HasSeen own q p.queue s.turn (seen (length b))
@@ -458,13 +462,13 @@ module _ (i : Input) (about : BoardSizes) (own : List BoardStep) (c : HintCodes)
           record {
             mask = reads_of a s b are p.queue s.reading.mask
                 (read_mask queues p.queue s.reading less)
-                (y.reads _ (3, omega arith, refl));
+                y.reads.mask;
             flows = reads_of a s b are (queues + p.queue) s.reading.flows
                 (read_flows queues p.queue s.reading less)
-                (y.reads _ (2, omega arith, refl));
+                y.reads.flows;
             online = reads_of a s b are (2 * queues + 1) s.reading.online
                 (read_online queues p.queue s.reading less)
-                (y.reads _ (0, omega arith, refl));
+                y.reads.online;
           }
 
       knows_socket : (a : List PolledTurn) (s : PolledTurn) (b : List PolledTurn)
@@ -473,7 +477,7 @@ module _ (i : Input) (about : BoardSizes) (own : List BoardStep) (c : HintCodes)
       knows_socket a s b are =
           reads_of a s b are (2 * queues) s.reading.socket
           (read_socket queues p.queue s.reading less)
-          ((is_polled a s b are).reads _ (1, omega arith, refl))
+          (is_polled a s b are).reads.socket
 
       was_looked : (a : List PolledTurn) (s : PolledTurn) (b : List PolledTurn)
           → x.polled ≡ a ++ s ∷ b

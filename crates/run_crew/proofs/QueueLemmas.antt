@@ -38,20 +38,23 @@ module _ (law : PollersAreCoupled) (i : Input) (h : History) (t : StageView) (cr
 
     polling : IsPolling (setup_in i)
         ((has i t crew turns own h.choices e (q % W) p.by p.worker).is.first q)
-        t.rx.sizes.start p.actor (turns (q % W)).steered (turns (q % W)).marks
+        t.rx.sizes.start p.actor (turns (q % W)).steered (turns (q % W)).marks (own (q % W))
         p.by.seats.hint.steps
     polling =
         let y = has i t crew turns own h.choices e (q % W) p.by p.worker in
         let k = keeps-poller i t crew turns own h.choices e q p in
         let same = queue-is i t crew turns own h.choices e q p in
-        subst (λ g. IsPolling g (y.is.first q) t.rx.sizes.start p.actor (turns (q % W)).steered
-        (turns (q % W)).marks p.by.seats.hint.steps) e.given
+        subst (λ ds. IsPolling (setup_in i) (y.is.first q) t.rx.sizes.start p.actor
+        (turns (q % W)).steered (turns (q % W)).marks ds p.by.seats.hint.steps)
+        (sym (e.lists (q % W) p.by p.worker))
+        (subst (λ g. IsPolling g (y.is.first q) t.rx.sizes.start p.actor (turns (q % W)).steered
+        (turns (q % W)).marks p.by.seats.rx.steps p.by.seats.hint.steps) e.given
         (subst (λ ts. IsPolling t.shared.given (y.is.first q) t.rx.sizes.start p.actor ts
-        (turns (q % W)).marks p.by.seats.hint.steps) y.steered
+        (turns (q % W)).marks p.by.seats.rx.steps p.by.seats.hint.steps) y.steered
         (subst (λ ms. IsPolling t.shared.given (y.is.first q) t.rx.sizes.start p.actor y.is.turns
-        ms p.by.seats.hint.steps) y.marks
+        ms p.by.seats.rx.steps p.by.seats.hint.steps) y.marks
         (subst (λ n. IsPolling t.shared.given (y.is.first n) t.rx.sizes.start p.actor y.is.turns
-        y.is.marks p.by.seats.hint.steps) same k.keeps)))
+        y.is.marks p.by.seats.rx.steps p.by.seats.hint.steps) same k.keeps))))
 
     coupled : (seen : ℕ → ℕ → ℕ) × IsCoupled q seen
     coupled =
@@ -63,9 +66,10 @@ module _ (law : PollersAreCoupled) (i : Input) (h : History) (t : StageView) (cr
         let homes = home-count i t crew turns own h.choices e in
         let x : IsPolling (setup_in i) (y.is.first q) t.rx.sizes.start p.actor
         (turns (p.actor.queue % W)).steered (turns (p.actor.queue % W)).marks
-        p.by.seats.hint.steps =
+        (own (p.actor.queue % W)) p.by.seats.hint.steps =
         subst (λ n. IsPolling (setup_in i) (y.is.first q) t.rx.sizes.start p.actor
-        (turns (n % W)).steered (turns (n % W)).marks p.by.seats.hint.steps) (sym same) polling in
+        (turns (n % W)).steered (turns (n % W)).marks (own (n % W)) p.by.seats.hint.steps)
+        (sym same) polling in
         let within : p.actor.queue < length (setup_in i).homes =
         subst (λ g. p.actor.queue < length g.homes) e.given k.within in
         let z =

@@ -74,7 +74,8 @@ PollersAreCoupled =
     (i : Input) (about : BoardSizes) (own : List BoardStep) (c : HintCodes)
     (seats : List (SeatView HintStep)) (seat : SeatView HintStep) (t : Execution) (first : ℕ)
     (p : Poller) (marks : List (StepBy Mark))
-    (x : IsPolling (setup_in i) first about.start p (t.turns (t.seat p.queue)) marks seat.steps)
+    (x : IsPolling (setup_in i) first about.start p (t.turns (t.seat p.queue)) marks own
+    seat.steps)
     → FlowsHaveOneHash i → p.choices.room ≤ length i.packets
     → p.queue < length (setup_in i).homes → AreShared c → Contains seats seat
     → (q : IsQueueCoupled i about own c seats t p.queue

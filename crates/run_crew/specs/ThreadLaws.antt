@@ -5,6 +5,7 @@ use Rattle.linearization.specs.Orders.{StepBy}
 use Rattle.steer_base.specs.Orders.{IsPrefix}
 use Rattle.steer_base.specs.declared.choice.Chosen.{Chosen}
 use Rattle.hint_words.specs.declared.step.HintStep.{HintStep}
+use Rattle.hop_rule.specs.declared.step.BoardStep.{BoardStep}
 use Rattle.history.specs.Lists.{arrivals_at}
 use Rattle.history.specs.declared.arrival.Arrival.{Arrival}
 use Rattle.history.specs.declared.commanded.Commanded.{Commanded}
@@ -49,8 +50,9 @@ ArrivalsAreWithin =
 abbrev pub FrontsAreChosen : Type 0
 FrontsAreChosen =
     (given : Setup) (first start : ℕ) (p : Poller) (turns : List (StepBy Turn))
-    (marks : List (StepBy Mark)) (hints : List HintStep) (arrivals : List Arrival) (left : List ℕ)
-    → IsPolling given first start p turns marks hints → p.hand ≡ None
+    (marks : List (StepBy Mark)) (rx : List BoardStep) (hints : List HintStep)
+    (arrivals : List Arrival) (left : List ℕ)
+    → IsPolling given first start p turns marks rx hints → p.hand ≡ None
     → arrivals_at arrivals p.queue ≡ received p.ring ++ left
     → All (λ x. x < p.choices.room) (arrivals_at arrivals p.queue)
     → IsPrefix (map (λ (c : Chosen). c.id) p.choices.items) (arrivals_at arrivals p.queue)

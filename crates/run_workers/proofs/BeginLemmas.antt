@@ -1,9 +1,10 @@
 -- A new worker, and one that knows the arrivals.
 use Rattle.std.proofs.lemmas.List.Elements.{All-nil}
 use Rattle.run_words.specs.declared.shared.Shared.{Shared}
+use Rattle.run_workers.specs.Hands.Pollers.{AreRead}
 use Rattle.run_workers.specs.Hands.Servers.{HasMaps}
-use Rattle.run_workers.proofs.Names.{Option, IfSome}
-use Rattle.run_workers.proofs.Names.{◌≡◌, ℕ, List, [], None, refl, sym, subst, length, StepBy}
+use Rattle.run_workers.proofs.Names.{◌≡◌, ℕ, List, [], Option, None, IfSome, refl, sym, subst}
+use Rattle.run_workers.proofs.Names.{length, StepBy}
 use Rattle.run_workers.proofs.Names.{Arrival, HintStep, none-some, lane_steps, holding, idle}
 use Rattle.run_workers.proofs.Names.{out_holding, phase, BoardSizes, HasOpen, IsOutside}
 use Rattle.run_workers.proofs.Names.{BoardSeatView, BoardView, Explained, Turn, Setup, IsDrain}
@@ -48,8 +49,10 @@ poller_begins : (t : StageView) (s : Seats) (first : ℕ → ℕ) (k : ℕ) (p :
     → IsNewPoller t s.rx.number first k p → KeepsPoller t s first [] [] k p
 poller_begins t s first k p x =
     assumption (
-    pollers_begin t.shared.given (first p.queue) t.rx.sizes.start p [] [] s.hint.steps x.hand
-    x.flows x.choices x.accepted x.table x.ring refl refl)
+    subst (λ o. IfSome o (λ z. AreRead (length t.shared.given.homes) p.queue z.reading s.rx.steps
+    z.visit)) (sym x.kept) tt,
+    pollers_begin t.shared.given (first p.queue) t.rx.sizes.start p [] [] s.rx.steps s.hint.steps
+    x.hand x.flows x.choices x.accepted x.table x.ring refl refl)
 
 server_begins : (t : StageView) (s : Seats) (rows k : ℕ) (v : Server)
     → IsNewServer t s.tx.number rows k v → KeepsServer t s rows [] [] k v

@@ -42,7 +42,7 @@ module _ (t : StageView) (w v : Worker) (s r : Seats)
         v.pollers.items (KeepsPoller t s x.first x.turns x.marks)
         (KeepsPoller t r x.first x.turns x.marks) x.turns i d e drains there serves is lane exit
         start (received t w v s r x) (ap length pollers)
-        (pollers_stay t w v s r x hint_grow pollers rx.number)
+        (pollers_stay t w v s r x hint_grow pollers rx.number rx.steps)
 
     pub drain_goes_on : GoesOn t w v s r
     drain_goes_on =

@@ -6,6 +6,7 @@ pub mod MapLemmas
 pub mod StopLemmas
 pub mod PollerLemmas
 pub mod PutLemmas
+pub mod ReadLemmas
 pub mod ReplyLemmas
 pub mod ServerLaws
 pub mod ServerLemmas

@@ -1,8 +1,7 @@
 -- What a worker keeps at the one board, at the other, and of its stores: what it keeps all in all,
 -- and what stays while it works elsewhere.
-use Rattle.run_workers.proofs.Names.{[]}
-use Rattle.run_workers.proofs.Names.{◌≡◌, ℕ, List, All, refl, sym, ap, subst, ◌∙◌, length, StepBy}
-use Rattle.run_workers.proofs.Names.{SeatView, HintStep, HasOpen, IsOutside, BoardSeatView}
+use Rattle.run_workers.proofs.Names.{◌≡◌, ℕ, List, [], All, refl, sym, ap, subst, ◌∙◌, length}
+use Rattle.run_workers.proofs.Names.{StepBy, SeatView, HintStep, HasOpen, IsOutside, BoardSeatView}
 use Rattle.run_workers.proofs.Names.{BoardView, Explained, Turn, Setup, no_lane, IsDrain, Drain}
 use Rattle.run_workers.proofs.Names.{Exit, Inboxes, Port, Grows, StoresAreFor, Mark, Note, Each}
 use Rattle.run_workers.proofs.Names.{IsTurnOfOne, KeepsDrain, KeepsPoller, KeepsServer, StageView}
@@ -137,12 +136,13 @@ module _ (t : StageView) (w v : Worker) (s r : Seats) (x : IsWorking t w s) wher
 
   module _ (hints : Grows s.hint.steps r.hint.steps) where
     pub pollers_stay : v.pollers.items ≡ w.pollers.items → r.rx.number ≡ s.rx.number
+        → Grows s.rx.steps r.rx.steps
         → Each (KeepsPoller t r x.first x.turns x.marks) v.pollers.items
-    pollers_stay same number =
+    pollers_stay same number steps =
         each_more (KeepsPoller t r x.first x.turns x.marks)
         (KeepsPoller t s x.first x.turns x.marks) w.pollers.items v.pollers.items same
         (λ k p kept. poller_stays t s r x.first x.turns x.turns x.marks x.marks k p number refl
-        refl hints kept) x.pollers
+        refl steps hints kept) x.pollers
 
     pub servers_stay : v.servers.items ≡ w.servers.items → r.tx.number ≡ s.tx.number
         → Grows s.rx.steps r.rx.steps → Grows s.tx.steps r.tx.steps
@@ -161,7 +161,8 @@ module _ (t : StageView) (w v : Worker) (s r : Seats) (x : IsWorking t w s) wher
         board_stays t.rx t.shared.given Inboxes s.rx r.rx w.drains.items v.drains.items
         w.pollers.items v.pollers.items (KeepsPoller t s x.first x.turns x.marks)
         (KeepsPoller t r x.first x.turns x.marks) x.turns drains (ap length pollers)
-        (pollers_stay pollers (ap (λ (z : BoardSeatView). z.number) rx)) received rx
+        (pollers_stay pollers (ap (λ (z : BoardSeatView). z.number) rx)
+        ([], ap (λ (z : BoardSeatView). z.steps) rx)) received rx
 
     pub transmit_stays : v.servers.items ≡ w.servers.items → v.ships.items ≡ w.ships.items
         → r.tx ≡ s.tx → Grows s.rx.steps r.rx.steps

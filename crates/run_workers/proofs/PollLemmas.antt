@@ -1,6 +1,7 @@
 -- A worker after a poll of one of its pollers.
 use Rattle.rtrb.specs.Ring.{SameConsumer}
 use Rattle.run_workers.specs.Hands.Laws.{Stays}
+use Rattle.run_workers.specs.Hands.Pollers.{KeepsReading}
 use Rattle.run_workers.proofs.Names.{◌≡◌, ◌≢◌, ℕ, ◌<◌, ◌≤◌, All, Some, sym, ap, subst, ◌∙◌, length}
 use Rattle.run_workers.proofs.Names.{length-set, slice_get, slice_set, slice_get_within, HasOpen}
 use Rattle.run_workers.proofs.Names.{IsOutside, BoardSeatView, Setup, IsPoller, Polls, Inboxes}
@@ -29,7 +30,9 @@ module _ (t : StageView) (w v : Worker) (s r : Seats) (i : ℕ) (p q : Poller)
     (ships : v.ships.items ≡ w.ships.items) (tx : r.tx ≡ s.tx)
     (there : slice_get w.pollers.items i ≡ Some p) (x : IsWorking t w s)
     (polls : Polls t.shared.given t.shared.filters p q s.rx r.rx s.hint r.hint)
-    (is : IsPoller t.shared.given.cpus q) (ring : SameConsumer p.ring q.ring)
+    (is : IsPoller t.shared.given.cpus q)
+    (reads : KeepsReading (length t.shared.given.homes) q r.rx.steps)
+    (ring : SameConsumer p.ring q.ring)
     (outside : IsOutside r.rx.steps) (gate : HasOpen r.rx.steps) where
   abbrev given : Setup
   given = t.shared.given
@@ -61,8 +64,9 @@ module _ (t : StageView) (w v : Worker) (s r : Seats) (i : ℕ) (p q : Poller)
         within = subst (λ n. n < length given.homes) (sym stay.queue) was.within;
         room = stay.room ∙ was.room;
         is = is;
+        kept = reads;
         keeps = subst (λ n. IsPolling given (x.first n) t.rx.sizes.start q on.more on.more_marks
-            r.hint.steps) (sym stay.queue) on.keeps;
+            r.rx.steps r.hint.steps) (sym stay.queue) on.keeps;
       }
 
   other_poller : (k : ℕ) (y : Poller) → k ≢ i → KeepsPoller t s x.first x.turns x.marks k y
@@ -73,7 +77,7 @@ module _ (t : StageView) (w v : Worker) (s r : Seats) (i : ℕ) (p q : Poller)
       poller_stays t s r x.first x.turns on.more x.marks on.more_marks k y stay.number
       (others_stay p.queue y.queue x.turns on.more differ on.grow)
       (others_stay p.queue y.queue x.marks on.more_marks differ on.marks_grow)
-      grow.1 kept
+      grow.0 grow.1 kept
 
   polled : KeepsReceive t v r x.first on.more on.more_marks
   polled =

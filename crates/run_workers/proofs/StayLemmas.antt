@@ -3,8 +3,9 @@ use Rattle.board_api.specs.Calls.Rights.{Pulls}
 use Rattle.run_workers.proofs.Names.{◌≡◌, ℕ, ◌<◌, List, ap, sym, subst, refl, ◌∙◌, StepBy, steps_of}
 use Rattle.run_workers.proofs.Names.{BoardSizes, BoardSeatView, Turn, Setup, IsDrain, Drain, Exit}
 use Rattle.run_workers.proofs.Names.{Poller, Server, Grows, Mark, Note, KeepsDrain, KeepsPoller}
-use Rattle.run_workers.proofs.Names.{KeepsServer, actor_at, StageView, Seats}
+use Rattle.run_workers.proofs.Names.{KeepsServer, actor_at, StageView, Seats, length}
 use Rattle.run_workers.proofs.Hands.MapLemmas.{maps_later}
+use Rattle.run_workers.proofs.Hands.ReadLemmas.{kept_grown}
 use Rattle.run_workers.proofs.Records.PollingLemmas.{pollers_stay}
 use Rattle.run_workers.proofs.Records.ReplyingLemmas.{servers_stay}
 
@@ -12,13 +13,15 @@ module _ (t : StageView) (s r : Seats) where
   pub poller_stays : (first : ℕ → ℕ) (turns more : List (StepBy Turn))
       (marks more_marks : List (StepBy Mark)) (k : ℕ) (p : Poller) → r.rx.number ≡ s.rx.number
       → steps_of p.queue more ≡ steps_of p.queue turns
-      → steps_of p.queue more_marks ≡ steps_of p.queue marks → Grows s.hint.steps r.hint.steps
+      → steps_of p.queue more_marks ≡ steps_of p.queue marks → Grows s.rx.steps r.rx.steps
+      → Grows s.hint.steps r.hint.steps
       → KeepsPoller t s first turns marks k p → KeepsPoller t r first more more_marks k p
-  poller_stays first turns more marks more_marks k p number same same_marks hints x =
+  poller_stays first turns more marks more_marks k p number same same_marks steps hints x =
       assumption (
         x.own ∙ ap (λ n. actor_at t.rx.sizes n k) (sym number),
+        kept_grown (length t.shared.given.homes) p s.rx.steps r.rx.steps steps x.kept,
         pollers_stay t.shared.given (first p.queue) t.rx.sizes.start p turns more marks more_marks
-            s.hint.steps r.hint.steps same same_marks hints x.keeps,
+            s.rx.steps r.rx.steps s.hint.steps r.hint.steps same same_marks steps hints x.keeps,
       )
 
   pub server_stays : (rows : ℕ) (replies more : List (StepBy Turn))

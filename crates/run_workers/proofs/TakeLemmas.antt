@@ -105,8 +105,8 @@ module _ (t : StageView) (w v : Worker) (s r : Seats) (i : ℕ) (y u : Server) (
         board_calls t.rx given Inboxes s.rx r.rx w.drains.items v.drains.items w.pollers.items
         v.pollers.items (KeepsPoller t s x.first x.turns x.marks)
         (KeepsPoller t r x.first x.turns x.marks) x.turns drains (ap length pollers)
-        (pollers_stay t w v s r x grow.1 pollers stay.number) (received t w v s r x) x.turns
-        stay.number
+        (pollers_stay t w v s r x grow.1 pollers stay.number grow.0) (received t w v s r x)
+        x.turns stay.number
         (takes_move t.rx.sizes given y u took s.rx r.rx s.hint r.hint takes) outside gate
         (applications_explain.takes t.rx.sizes given y u took s.rx r.rx s.hint r.hint takes x.turns
         x.steered) x.by_pollers

@@ -7,7 +7,7 @@ use Rattle.board_api.specs.Seats.{BoardSeatView}
 use Rattle.hop_delivery.specs.Orders.Turns.{Turn}
 use Rattle.steer_model.specs.State.Setup.{Setup}
 use Rattle.run_workers.specs.Hands.Drains.{IsDrain}
-use Rattle.run_workers.specs.Hands.Pollers.{IsPoller}
+use Rattle.run_workers.specs.Hands.Pollers.{IsPoller, KeepsReading}
 use Rattle.run_workers.specs.Hands.Servers.{IsServer, KeepsMaps}
 use Rattle.run_workers.specs.declared.drain.Drain.{Drain}
 use Rattle.run_workers.specs.declared.drain.Exit.{Exit}
@@ -37,15 +37,18 @@ IsTurnOfOne {A} about number count e =
 abbrev pub IsForeign : BoardSizes → (number count lane : ℕ) → Type 0
 IsForeign about number count lane = (k : ℕ) → k < count → lane ≢ actor_at about number k
 
--- A poller has its own queue, room for all packets, and its record over the turns of its seat.
--- `first` has the flow word of each queue at the start.
+-- A poller has its own queue, room for all packets, its record over the turns of its seat, and what
+-- its seat read of the settings, if it has kept them. `first` has the flow word of each queue at
+-- the start.
 pub record KeepsPoller (t : StageView) (s : Seats) (first : ℕ → ℕ)
     (turns : List (StepBy Turn)) (marks : List (StepBy Mark)) (k : ℕ) (p : Poller) : Type 0 where
   pub own : p.queue ≡ actor_at t.rx.sizes s.rx.number k
   pub within : p.queue < length t.shared.given.homes
   pub room : p.choices.room ≡ t.rx.sizes.room
   pub is : IsPoller t.shared.given.cpus p
-  pub keeps : IsPolling t.shared.given (first p.queue) t.rx.sizes.start p turns marks s.hint.steps
+  pub kept : KeepsReading (length t.shared.given.homes) p s.rx.steps
+  pub keeps : IsPolling t.shared.given (first p.queue) t.rx.sizes.start p turns marks s.rx.steps
+      s.hint.steps
 
 -- A drain has its own lane, from which its seat may pull, and this exit, counts from the number at
 -- which the counters of the board start, and has its record over the steps of its seat.

@@ -41,6 +41,7 @@ pub record IsNewPoller (t : StageView) (number : ℕ) (first : ℕ → ℕ) (k :
   pub accepted : p.accepted ≡ 0
   pub table : p.table ≡ cleared (rounded_up (flows_in (first p.queue))) t.rx.sizes.start false
   pub ring : received p.ring ≡ []
+  pub kept : p.kept ≡ None
 
 -- A drain of the worker's own, as it was made.
 pub record IsNewDrain (about : BoardSizes) (given : Setup) (exit : Exit) (number k : ℕ)

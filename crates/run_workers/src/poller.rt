@@ -22,6 +22,7 @@ ghost use Rattle.run_words.specs.declared.hint_word.TheConstants.{FILTER_WORDS};
 ghost use Rattle.run_workers.specs.Hands.Pollers.{HasQueueSettings};
 ghost use Rattle.run_workers.specs.Hands.Pollers.{Chooses, DoesNothing, EmptiesHand};
 ghost use Rattle.run_workers.specs.Hands.Pollers.{FindsAnnounced, HasLanesBelow, IsPoller};
+ghost use Rattle.run_workers.specs.Hands.Pollers.{KeepsReading, Reads, Rereads};
 ghost use Rattle.run_workers.specs.Hands.Pollers.{LoadsHead, LoadsQueue, TakesNone};
 ghost use Rattle.run_workers.specs.Hands.Pollers.{LooksUp};
 ghost use Rattle.run_workers.specs.Hands.Pollers.{Polls};
@@ -62,6 +63,17 @@ pub struct Poller {
     pub choices: Journal<Chosen>,
     /// The number of packets that were accepted.
     pub accepted: u32,
+    /// The settings that were read last, if any were.
+    pub kept: Option<KeptReading>,
+}
+
+/// What a poller keeps of the settings that it read.
+#[derive(Clone, Copy)]
+pub struct KeptReading {
+    /// The number of the visit in which they were read.
+    pub visit: u32,
+    /// The settings.
+    pub reading: Reading,
 }
 
 /// The words of a queue's settings that were read in a visit.
@@ -112,6 +124,23 @@ fn look(
     place_in(word, shared.given.cpus())
 }
 
+// Reads the settings of a queue, of so many.
+fn read_settings<B: Board>(board: &B, queue: u8, queues: u8, seat: &mut BoardSeat) -> Reading
+    requires table { seat.old.table ≡ (B.view board.now).table }
+    requires inside { IsInside seat.old.steps }
+    requires queue { queue < queues }
+    requires settings { length (B.view board.now).sizes.settings ≡ 2 * queues + 2 }
+    ensures reads { Adds (read_steps queues queue result) seat.old seat.new }
+{
+    let queue = RxQueue(queue);
+    Reading {
+        mask: board.setting(seat, ReceiveSetting::Cpus(queue).number(queues)),
+        flows: board.setting(seat, ReceiveSetting::Flows(queue).number(queues)),
+        socket: board.setting(seat, ReceiveSetting::SocketSize.number(queues)),
+        online: board.setting(seat, ReceiveSetting::Online.number(queues)),
+    }
+}
+
 impl Poller {
     /// The poller of a receive queue, which has steered nothing yet, with room for `room` choices.
     /// `flows` is the queue's flow count, not rounded up; `start` is the number at which the lanes'
@@ -134,6 +163,7 @@ impl Poller {
         ensures choices { IfOk result (λ p. p.choices ≡ journal [] room) }
         ensures room { IfOk result (λ p. p.choices.room ≡ room) }
         ensures accepted { IfOk result (λ p. p.accepted ≡ 0) }
+        ensures kept { IfOk result (λ p. p.kept ≡ None) }
         ensures is { IfOk result (λ p. (cpus : ℕ) → IsPoller cpus p) }
     {
         Ok(Poller {
@@ -144,6 +174,7 @@ impl Poller {
             table: DevTable::make(alloc, flows, start)?,
             choices: Journal::make(alloc, room)?,
             accepted: 0,
+            kept: None,
         })
     }
 
@@ -163,20 +194,20 @@ impl Poller {
         requires hint_table { hint.old.table ≡ shared.now.hints.table }
         requires words { word_count self.old.choices.room ≤ shared.now.hints.words }
         requires filters { shared.now.filters ≤ MAX_PLAN_FILTERS }
-        requires outside { IsOutside seat.old.steps }
-        requires open { HasOpen seat.old.steps }
+        requires outside { IsOutside seat.old.steps × HasOpen seat.old.steps }
         requires queue { self.old.queue < length shared.now.given.homes }
         requires settings { HasQueueSettings (B.view board.now).sizes shared.now.given }
         requires cpus { (B.view board.now).sizes.lanes ≡ shared.now.given.cpus }
         requires room { self.old.choices.room ≡ (B.view board.now).sizes.room }
         requires is { IsPoller shared.now.given.cpus self.old }
+        requires kept { KeepsReading (length shared.now.given.homes) self.old seat.old.steps }
         ensures polls { Polls shared.now.given shared.now.filters self.old self.new
             seat.old seat.new hint.old hint.new }
         ensures idle { result ≡ false → DoesNothing self.old self.new }
         ensures is { IsPoller shared.now.given.cpus self.new }
+        ensures kept { KeepsReading (length shared.now.given.homes) self.new seat.new.steps }
         ensures ring { SameConsumer self.old.ring self.new.ring }
-        ensures outside { IsOutside seat.new.steps }
-        ensures open { HasOpen seat.new.steps }
+        ensures outside { IsOutside seat.new.steps × HasOpen seat.new.steps }
     {
         let took = self.take();
         let Some(id) = self.announced(shared, hint) else {
@@ -239,7 +270,8 @@ impl Poller {
         }
     }
 
-    // Reads the settings of the queue, of so many, and clears the table if the flow count was
+    // The settings of the queue, of so many: those that are kept if they were read in a visit with
+    // the same number, and otherwise they are read and kept. Clears the table if the flow count was
     // changed.
     fn read<B: Board>(&mut self, board: &B, queues: u8, seat: &mut BoardSeat) -> Reading
         requires table { seat.old.table ≡ (B.view board.now).table }
@@ -247,21 +279,37 @@ impl Poller {
         requires queue { self.old.queue < queues }
         requires settings { length (B.view board.now).sizes.settings ≡ 2 * queues + 2 }
         requires rounded { self.old.table.exact ≡ false }
-        ensures reads { Adds (read_steps queues self.old.queue result) seat.old seat.new }
+        requires kept { KeepsReading queues self.old seat.old.steps }
+        ensures reads { Reads queues self.old.queue result seat.old seat.new }
+        ensures kept { KeepsReading queues self.new seat.new.steps }
         ensures same { self.new ≡ record self.old {
           flows = result.flows;
           table = refreshed self.old.flows result.flows self.old.table;
+          kept = self.new.kept;
         } }
     {
-        let queue = RxQueue(self.queue);
-        let reading = Reading {
-            mask: board.setting(seat, ReceiveSetting::Cpus(queue).number(queues)),
-            flows: board.setting(seat, ReceiveSetting::Flows(queue).number(queues)),
-            socket: board.setting(seat, ReceiveSetting::SocketSize.number(queues)),
-            online: board.setting(seat, ReceiveSetting::Online.number(queues)),
-        };
+        let visit = seat.visit_number();
+        if let Some(reading) = self.known(visit) {
+            self.refresh(reading.flows);
+            return reading;
+        }
+        let reading = read_settings(board, self.queue, queues, seat);
+        self.kept = Some(KeptReading { visit, reading });
         self.refresh(reading.flows);
         reading
+    }
+
+    // The settings that are kept, if they were read in a visit with this number.
+    fn known(&self, visit: u32) -> Option<Reading>
+        ensures { IfSome result
+            (λ r. self.now.kept ≡ Some (record { visit = visit; reading = r })) }
+    {
+        let kept = self.kept?;
+        if kept.visit == visit {
+            Some(kept.reading)
+        } else {
+            None
+        }
     }
 
     // Clears the table, unless this word of the flow count was read before.
@@ -323,6 +371,7 @@ impl Poller {
         requires cpus { (B.view board.now).sizes.lanes ≡ shared.now.given.cpus }
         requires rounded { self.old.table.exact ≡ false }
         requires lanes { HasLanesBelow shared.now.given.cpus self.old.table }
+        requires kept { KeepsReading (length shared.now.given.homes) self.old seat.old.steps }
         ensures chooses { Chooses shared.now.given self.old.queue id self.old.flows self.new.flows
             self.old.table self.new.table result seat.old seat.new hint.old hint.new }
         ensures lane { result.lane < shared.now.given.cpus }
@@ -330,8 +379,7 @@ impl Poller {
         ensures class { IsClassOf self.new.table result.class }
         ensures set { IfSome result.class (λ class. IsSome (entries self.new.table class).lane) }
         ensures rounded { self.new.table.exact ≡ false }
-        ensures same { self.new
-            ≡ record self.old { flows = self.new.flows; table = self.new.table } }
+        ensures reads { Rereads (length shared.now.given.homes) self.old self.new seat.new.steps }
     {
         let reading = self.read(board, shared.given.queues(), seat);
         let cpus = shared.given.cpus();
@@ -407,12 +455,14 @@ impl Poller {
         requires few { (B.view board.now).sizes.room ≤ MAX_PACKETS }
         requires is { IsPoller shared.now.given.cpus self.old }
         requires room { length self.old.choices.items < self.old.choices.room }
+        requires kept { KeepsReading (length shared.now.given.homes) self.old seat.old.steps }
         ensures steers { Steers shared.now.given shared.now.filters self.old.queue self.old.flows
             self.new.flows self.old.table self.new.table self.old.accepted self.new.accepted
             (record { id = id; choice = result }) seat.old seat.new hint.old hint.new }
         ensures is { IsPoller shared.now.given.cpus self.new }
         ensures choices { self.new.choices
             ≡ grown self.old.choices (record { id = id; choice = result }) }
+        ensures kept { KeepsReading (length shared.now.given.homes) self.new seat.new.steps }
         ensures same { EmptiesHand self.old self.new }
     {
         let choice = self.choose(board, shared, seat, hint, id);

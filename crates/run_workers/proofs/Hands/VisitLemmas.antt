@@ -1,10 +1,12 @@
 -- A visit in which a packet was steered is a turn.
 use Rattle.hop_rule.specs.declared.step.BoardStep.TheVariants.{Weighed}
-use Rattle.board_api.specs.StepWords.{is_marked}
+use Rattle.board_api.specs.StepWords.{is_marked, openings_in}
+use Rattle.hop_rule.specs.Gates.{visit_number}
 use Rattle.hop_delivery.specs.Orders.Turns.{turn_put}
 use Rattle.hop_delivery.proofs.Orders.TurnLemmas.{explained_turn}
 use Rattle.run_workers.specs.Hands.Laws.{PollsLeaveDrains, ServesExplain, VisitsExplain}
-use Rattle.run_workers.specs.Hands.Pollers.{LoadedHead, LoadsHead, Steers, class_read, desired_read}
+use Rattle.run_workers.specs.Hands.Pollers.{AreRead, KeepsReading, LoadedHead, LoadsHead, Steers}
+use Rattle.run_workers.specs.Hands.Pollers.{class_read, desired_read}
 use Rattle.run_workers.specs.Hands.Pollers.{online_read, put_of, read_steps}
 use Rattle.run_workers.specs.declared.poller.Reading.{Reading}
 use Rattle.run_workers.proofs.Names.{◌≡◌, ℕ, List, [], ◌∷◌, ◌++◌, Option, None, Some, IfSome, refl}
@@ -16,10 +18,11 @@ use Rattle.run_workers.proofs.Names.{visit, BoardStep, Gate, Entered, Left, Turn
 use Rattle.run_workers.proofs.Names.{IsInside, BoardSeatView, Adds, quiet_steps_stay, AreQuiet}
 use Rattle.run_workers.proofs.Names.{Explained, Turn, visit_with, explained_more, Setup}
 use Rattle.run_workers.proofs.Names.{packet_hash, HoldsNoMore, LeavesLane, IsDrain, FindsClosed}
-use Rattle.run_workers.proofs.Names.{SteersHand, Waits, Visits, refreshed, Drain}
+use Rattle.run_workers.proofs.Names.{SteersHand, Waits, Visits, refreshed, Drain, Poller}
 use Rattle.run_workers.proofs.Hands.ChoiceLemmas.{class_stays}
 use Rattle.run_workers.proofs.Hands.DrainLemmas.{stays_drain}
 use Rattle.run_workers.proofs.Hands.DeltaLemmas.{adds_both, holds_both, leaves_both, quiet_both}
+use Rattle.run_workers.proofs.Hands.ReadLemmas.{are_added, kept_added}
 use Rattle.run_workers.proofs.Hands.WaitLemmas.{waits_at_board}
 
 -- steps at the gate and of loads hold and serve nothing
@@ -117,6 +120,39 @@ pub loads_if : (table : Table) (class head : Option ℕ) (front xs back : List B
 loads_if table class None front xs back is = tt
 loads_if table class (Some n) front xs back is = loads_more table class front xs back n is
 
+-- ---- the settings that were read
+
+pub record SettingSteps (old new : BoardSeatView) : Type 0 where
+  pub added : List BoardStep
+  pub adds : Adds added old new
+  pub quiet : AreQuiet added
+  pub idle : AreIdle added
+
+setting_steps : (queues q : ℕ) (r : Reading) (old new : BoardSeatView)
+    → (new ≡ old) ⊎ Adds (read_steps queues q r) old new → SettingSteps old new
+setting_steps queues q r old new (inl same) =
+    record {
+      added = [];
+      adds = same;
+      quiet = record { puts = refl; visits = refl };
+      idle = idle_none;
+    }
+setting_steps queues q r old new (inr adds) =
+    record {
+      added = read_steps queues q r;
+      adds = adds;
+      quiet = record { puts = refl; visits = refl };
+      idle = idle_reads queues q r;
+    }
+
+-- what a poller keeps, after the head was loaded
+pub kept_loaded : (queues : ℕ) (p : Poller) (table : Table) (class head : Option ℕ)
+    (old new : BoardSeatView) → LoadsHead table class old new head
+    → KeepsReading queues p old.steps → KeepsReading queues p new.steps
+kept_loaded queues p table class head old new loads is =
+    let steps = head_steps table class head old new loads in
+    kept_added queues p steps.added old new steps.adds is
+
 -- ---- inside
 
 module _ (given : Setup) (filters q flows seen : ℕ) (before after : Table)
@@ -136,27 +172,27 @@ module _ (given : Setup) (filters q flows seen : ℕ) (before after : Table)
   pub head : HeadSteps table class s.chooses.head s.chooses.mid s.mid
   head = head_steps table class s.chooses.head s.chooses.mid s.mid s.chooses.loads
 
-  abbrev reads : List BoardStep
-  reads = read_steps (length given.homes) q reading
+  pub reads : SettingSteps old s.chooses.mid
+  reads = setting_steps (length given.homes) q reading old s.chooses.mid s.chooses.reads.steps
 
   abbrev put : BoardStep
   put = put_of given chosen.choice.lane chosen.id s.answer
 
   abbrev early : List BoardStep
-  early = s.puts.early ++ (head.added ++ reads)
+  early = s.puts.early ++ (head.added ++ reads.added)
 
   quiet : AreQuiet early
-  quiet = quiet_both s.puts.early (head.added ++ reads) s.puts.quiet
-      (quiet_both head.added reads head.quiet (record { puts = refl; visits = refl }))
+  quiet = quiet_both s.puts.early (head.added ++ reads.added) s.puts.quiet
+      (quiet_both head.added reads.added head.quiet reads.quiet)
 
   idle : AreIdle (put ∷ early)
-  idle = idle_both (put ∷ s.puts.early) (head.added ++ reads)
+  idle = idle_both (put ∷ s.puts.early) (head.added ++ reads.added)
       (record { holds = s.puts.holds; leaves = s.puts.leaves })
-      (idle_both head.added reads head.idle (idle_reads (length given.homes) q reading))
+      (idle_both head.added reads.added head.idle reads.idle)
 
   adds : Adds (put ∷ early) old new
-  adds = adds_both old s.mid new (put ∷ s.puts.early) (head.added ++ reads)
-      (adds_both old s.chooses.mid s.mid head.added reads s.chooses.reads head.adds) s.puts.adds
+  adds = adds_both old s.mid new (put ∷ s.puts.early) (head.added ++ reads.added)
+      (adds_both old s.chooses.mid s.mid head.added reads.added reads.adds head.adds) s.puts.adds
 
   pub stays_inside : IsInside old.steps → IsInside new.steps
   stays_inside is =
@@ -200,6 +236,19 @@ module _ (given : Setup) (filters q flows seen : ℕ) (before after : Table)
       all = idle_both (Gate Left ∷ []) ((put ∷ early) ++ Gate (Entered w) ∷ []) idle_left
           (idle_both (put ∷ early) (Gate (Entered w) ∷ []) idle (idle_entered w))
 
+      -- the settings are as they were read in a visit with this number
+      known : AreRead (length given.homes) q reading last.steps (openings_in w)
+      known =
+          let number : visit_number (gate_steps old.steps) ≡ openings_in w =
+          ap (λ (v : BoardSeatView). visit_number (gate_steps v.steps)) enters in
+          are_added (length given.homes) q reading (openings_in w) (Gate Left ∷ []) new last leaves
+          (are_added (length given.homes) q reading (openings_in w) (put ∷ s.puts.early) s.mid new
+          s.puts.adds
+          (are_added (length given.homes) q reading (openings_in w) head.added s.chooses.mid s.mid
+          head.adds
+          (subst (AreRead (length given.homes) q reading s.chooses.mid.steps) number
+          s.chooses.reads.are)))
+
       pub visits : Visits given filters q flows seen before after count_old count_new (turn w) first
           last hint_old hint_new
       visits =
@@ -217,10 +266,10 @@ module _ (given : Setup) (filters q flows seen : ℕ) (before after : Table)
             head = s.chooses.head;
             hint_mid = s.hint_mid;
             hint_marked = s.hint_marked;
-            reads = λ d among. Contains-append_right s.puts.early (head.added ++ reads) d
-                (Contains-append_right head.added reads d among);
+            reads = known;
             looks = s.chooses.looks;
-            loads = loads_if table class s.chooses.head s.puts.early head.added reads head.loads;
+            loads = loads_if table class s.chooses.head s.puts.early head.added reads.added
+                head.loads;
             looked = s.chooses.looked;
             rule = s.chooses.rule;
             table = told;

@@ -14,7 +14,9 @@ use Rattle.run_workers.proofs.Names.{Chosen, Table, HintStep, nth-inside, BoardS
 use Rattle.run_workers.proofs.Names.{Turned, Explained, Turn, explained_more, Setup, packet_hash}
 use Rattle.run_workers.proofs.Names.{socket_size_in, FindsClosed, IsPoller, LoadsQueue, SteersHand}
 use Rattle.run_workers.proofs.Names.{Visits, Waits, count_after, refreshed, Poller, Grows}
-use Rattle.run_workers.proofs.Names.{TurnsGrow, Mark}
+use Rattle.run_workers.proofs.Names.{TurnsGrow, Mark, BoardStep, visit_with}
+use Rattle.board_api.specs.StepWords.{openings_in}
+use Rattle.run_workers.proofs.Hands.ReadLemmas.{are_grown}
 use Rattle.run_workers.proofs.Hands.VisitLemmas.{visits_explain}
 use Rattle.run_workers.specs.Records.Growth.{held}
 use Rattle.run_workers.specs.Records.Polling.{AllPolled, HasLookedUp, IsLastLook, IsLastMark}
@@ -28,20 +30,23 @@ use Rattle.run_workers.proofs.Records.HintLemmas.{load_grow, looked_stays, looke
 use Rattle.run_workers.proofs.Records.HintLemmas.{polls_keep_hints, steps_one, waits_load}
 use Rattle.run_workers.proofs.Records.ListLemmas.{append_none, grows_both, noted_more, nth_later}
 use Rattle.run_workers.proofs.Records.ListLemmas.{own_turn}
+use Rattle.run_workers.proofs.Records.ReplyingLemmas.{adds_grow, gate_grow}
 use Rattle.run_workers.proofs.Hands.WaitLemmas.{waits_at_board}
 
 abbrev Hint : Type 0
 Hint = SeatView HintStep
 
-module _ (first start : ℕ) (given : Setup) (packets q : ℕ) (ds es : List HintStep)
-    (stay : Grows ds es) where
+module _ (first start : ℕ) (given : Setup) (packets q : ℕ) (rx rx_after : List BoardStep)
+    (ds es : List HintStep) (rx_stay : Grows rx rx_after) (stay : Grows ds es) where
   polled_stays : (ss : List PolledTurn) (s : PolledTurn)
-      → IsPolled first start given packets q ds ss s → IsPolled first start given packets q es ss s
+      → IsPolled first start given packets q rx ds ss s
+      → IsPolled first start given packets q rx_after es ss s
   polled_stays ss s x =
       record {
         within = x.within;
         hash = x.hash;
-        reads = x.reads;
+        reads = are_grown (length given.homes) q s.reading (openings_in s.turn.word) rx rx_after
+            rx_stay x.reads;
         want = x.want;
         looks = looked_stays given.cpus _ ds es s.look x.want stay x.looks;
         last = x.last;
@@ -54,35 +59,35 @@ module _ (first start : ℕ) (given : Setup) (packets q : ℕ) (ds es : List Hin
         rule = x.rule;
       }
 
-  pub all_stay : (ss : List PolledTurn) → AllPolled first start given packets q ds ss
-      → AllPolled first start given packets q es ss
+  pub all_stay : (ss : List PolledTurn) → AllPolled first start given packets q rx ds ss
+      → AllPolled first start given packets q rx_after es ss
   all_stay [] all = all
   all_stay (s ∷ ss) all = (polled_stays ss s all.0, all_stay ss all.1)
 
 -- the looks of all turns are below the number of steps
-looks_below : (first start : ℕ) (given : Setup) (packets q : ℕ) (ds : List HintStep)
-    (ss : List PolledTurn) → AllPolled first start given packets q ds ss
+looks_below : (first start : ℕ) (given : Setup) (packets q : ℕ) (rx : List BoardStep)
+    (ds : List HintStep) (ss : List PolledTurn) → AllPolled first start given packets q rx ds ss
     → IsLastLook ss (length ds)
-looks_below first start given packets q ds [] all =
+looks_below first start given packets q rx ds [] all =
     All-nil (λ (s : PolledTurn). IfSome s.look (λ m. m < length ds))
-looks_below first start given packets q ds (s ∷ ss) all =
+looks_below first start given packets q rx ds (s ∷ ss) all =
     All-cons (λ (s : PolledTurn). IfSome s.look (λ m. m < length ds)) s ss
     (look_below given.cpus _ ds s.look all.0.want all.0.looks)
-    (looks_below first start given packets q ds ss all.1)
+    (looks_below first start given packets q rx ds ss all.1)
 
 -- and so are their marks
-marks_below : (first start : ℕ) (given : Setup) (packets q : ℕ) (ds : List HintStep)
-    (ss : List PolledTurn) → AllPolled first start given packets q ds ss
+marks_below : (first start : ℕ) (given : Setup) (packets q : ℕ) (rx : List BoardStep)
+    (ds : List HintStep) (ss : List PolledTurn) → AllPolled first start given packets q rx ds ss
     → IsLastMark ss (length ds)
-marks_below first start given packets q ds [] all =
+marks_below first start given packets q rx ds [] all =
     All-nil (λ (s : PolledTurn). s.mark < length ds)
-marks_below first start given packets q ds (s ∷ ss) all =
+marks_below first start given packets q rx ds (s ∷ ss) all =
     All-cons (λ (s : PolledTurn). s.mark < length ds) s ss
     (nth-inside ds s.mark _ all.0.marked)
-    (marks_below first start given packets q ds ss all.1)
+    (marks_below first start given packets q rx ds ss all.1)
 
 pub pollers_begin : PollersBegin
-pollers_begin given first start p turns marks hints hand flows items accepted table ring own
+pollers_begin given first start p turns marks rx hints hand flows items accepted table ring own
     own_marks =
     record {
       polled = [];
@@ -98,7 +103,8 @@ pollers_begin given first start p turns marks hints hand flows items accepted ta
     }
 
 pub pollers_stay : PollersStay
-pollers_stay given first start p turns more marks more_marks hints after same same_marks stay x =
+pollers_stay given first start p turns more marks more_marks rx rx_after hints after same same_marks
+    rx_stay stay x =
     record {
       polled = x.polled;
       own = x.own ∙ sym same;
@@ -108,13 +114,14 @@ pollers_stay given first start p turns more marks more_marks hints after same sa
       flows = x.flows;
       table = x.table;
       accepted = x.accepted;
-      are = all_stay first start given p.choices.room p.queue hints after stay x.polled x.are;
+      are = all_stay first start given p.choices.room p.queue rx rx_after hints after rx_stay stay
+          x.polled x.are;
     }
 
 -- ---- taking from the ring
 
 module _ (given : Setup) (first start : ℕ) (p mid : Poller) (turns : List (StepBy Turn))
-    (marks : List (StepBy Mark)) (hints : List HintStep) where
+    (marks : List (StepBy Mark)) (rx : List BoardStep) (hints : List HintStep) where
   -- the packets of a ring from which one number more came
   ring_more : (x : ℕ) → received mid.ring ≡ received p.ring ++ x ∷ []
       → mid.hand ≡ (if nat_lt x p.choices.room then Some x else None)
@@ -148,10 +155,10 @@ module _ (given : Setup) (first start : ℕ) (p mid : Poller) (turns : List (Ste
 
   pub took_is : (took : Bool) → Takes p mid took
       → mid ≡ record p { hand = mid.hand; ring = mid.ring }
-      → IsPolling given first start p turns marks hints
-      → IsPolling given first start mid turns marks hints
+      → IsPolling given first start p turns marks rx hints
+      → IsPolling given first start mid turns marks rx hints
   took_is took takes same x =
-      subst (λ z. IsPolling given first start z turns marks hints) (sym same) (record {
+      subst (λ z. IsPolling given first start z turns marks rx hints) (sym same) (record {
         polled = x.polled;
         own = x.own;
         marked = x.marked;
@@ -169,7 +176,7 @@ module _ (given : Setup) (filters first start id : ℕ) (mid q : Poller) (turns 
     (marks : List (StepBy Mark)) (old new : BoardSeatView) (hint_old hint_new : Hint)
     (hand : mid.hand ≡ Some id) (within : id < mid.choices.room)
     (steers : SteersHand given filters id mid q old new hint_old hint_new)
-    (x : IsPolling given first start mid turns marks hint_old.steps) where
+    (x : IsPolling given first start mid turns marks old.steps hint_old.steps) where
   abbrev turn : Turn
   turn = steers.turn
 
@@ -219,6 +226,9 @@ module _ (given : Setup) (filters first start id : ℕ) (mid q : Poller) (turns 
         steers = inr (id, hand, steers);
       })
 
+  board_stay : Grows old.steps new.steps
+  board_stay = adds_grow (visit_with turn [] []) old new steers.visit.adds
+
   loaded_stay : Grows hint_old.steps steers.hint_mid.steps
   loaded_stay = steps_one _ hint_old steers.hint_mid steers.loads
 
@@ -243,19 +253,22 @@ module _ (given : Setup) (filters first start id : ℕ) (mid q : Poller) (turns 
   is_last : (o : Option ℕ) → IfSome (look_at o look_step) (IsLastLook x.polled)
   is_last None = tt
   is_last (Some e) =
-      looks_below first start given mid.choices.room mid.queue steers.hint_mid.steps x.polled
-      (all_stay first start given mid.choices.room mid.queue hint_old.steps
-      steers.hint_mid.steps loaded_stay x.polled x.are)
+      looks_below first start given mid.choices.room mid.queue old.steps steers.hint_mid.steps
+      x.polled
+      (all_stay first start given mid.choices.room mid.queue old.steps old.steps hint_old.steps
+      steers.hint_mid.steps ([], refl) loaded_stay x.polled x.are)
 
   is_last_mark : IsLastMark x.polled mark_step
   is_last_mark =
-      marks_below first start given mid.choices.room mid.queue visit.hint_mid.steps x.polled
-      (all_stay first start given mid.choices.room mid.queue hint_old.steps visit.hint_mid.steps
+      marks_below first start given mid.choices.room mid.queue old.steps visit.hint_mid.steps
+      x.polled
+      (all_stay first start given mid.choices.room mid.queue old.steps old.steps hint_old.steps
+      visit.hint_mid.steps ([], refl)
       (grows_both hint_old.steps steers.hint_mid.steps visit.hint_mid.steps loaded_stay
       looked_stay) x.polled x.are)
 
-  is_polled : IsPolled first start given mid.choices.room mid.queue hint_new.steps x.polled
-      polled_turn
+  is_polled : IsPolled first start given mid.choices.room mid.queue new.steps hint_new.steps
+      x.polled polled_turn
   is_polled =
       record {
         within = subst (λ n. n < mid.choices.room) (sym steers.id_is) within;
@@ -291,7 +304,8 @@ module _ (given : Setup) (filters first start id : ℕ) (mid q : Poller) (turns 
     table = q.table;
     choices = grown mid.choices turn.chosen;
     accepted = q.accepted;
-  }) (step_by mid.queue turn ∷ turns) (step_by mid.queue mark ∷ marks) hint_new.steps
+    kept = q.kept;
+  }) (step_by mid.queue turn ∷ turns) (step_by mid.queue mark ∷ marks) new.steps hint_new.steps
   steered_is =
       record {
         polled = polled_turn ∷ x.polled;
@@ -306,8 +320,8 @@ module _ (given : Setup) (filters first start id : ℕ) (mid q : Poller) (turns 
         accepted = visit.count ∙ ap (λ n. count_after n turn.answer) x.accepted;
         are = (
           is_polled,
-          all_stay first start given mid.choices.room mid.queue hint_old.steps hint_new.steps
-              hints_stay x.polled x.are,
+          all_stay first start given mid.choices.room mid.queue old.steps new.steps
+              hint_old.steps hint_new.steps board_stay hints_stay x.polled x.are,
         );
       }
 
@@ -323,13 +337,14 @@ module _ (given : Setup) (filters first start id : ℕ) (mid q : Poller) (turns 
             mid.accepted q.accepted turn old new steers.hint_mid hint_new steers.visit turns
             explained;
         keeps = subst (λ z. IsPolling given first start z (step_by mid.queue turn ∷ turns)
-            (step_by mid.queue mark ∷ marks) hint_new.steps)
+            (step_by mid.queue mark ∷ marks) new.steps hint_new.steps)
             (sym (steers.same ∙ (λ i. record mid {
               hand = None;
               flows = visit.word i;
               table = q.table;
               choices = steers.choices i;
               accepted = q.accepted;
+              kept = q.kept;
             })))
             steered_is;
         stores = λ noted before. visit_stores given filters mid.queue
@@ -352,7 +367,7 @@ module _ (given : Setup) (filters first start : ℕ) (mid q : Poller) (turns : L
       (explained_more (Gate Left ∷ Gate (Turned closed.0) ∷ []) old.steps turns refl explained)
 
   waits_on : Waits mid q old new hint_old hint_new → Explained old.steps turns
-      → IsPolling given first start mid turns marks hint_old.steps
+      → IsPolling given first start mid turns marks old.steps hint_old.steps
       → PollsOn given filters first start mid q turns marks new hint_old hint_new
   waits_on waits explained x =
       let loads = waits_load mid q old new hint_old hint_new waits in record {
@@ -361,10 +376,12 @@ module _ (given : Setup) (filters first start : ℕ) (mid q : Poller) (turns : L
         more_marks = marks;
         marks_grow = inl refl;
         explained = still (waits_at_board mid q old new hint_old hint_new waits) explained;
-        keeps = subst (λ z. IsPolling given first start z turns marks hint_new.steps)
+        keeps = subst (λ z. IsPolling given first start z turns marks new.steps hint_new.steps)
             (sym waits.same)
-            (pollers_stay given first start mid turns turns marks marks hint_old.steps
-            hint_new.steps refl refl (load_grow hint_old hint_new loads) x);
+            (pollers_stay given first start mid turns turns marks marks old.steps new.steps
+            hint_old.steps hint_new.steps refl refl
+            (gate_grow old new (waits_at_board mid q old new hint_old hint_new waits))
+            (load_grow hint_old hint_new loads) x);
         stores = λ noted. at_most_stores given filters turns marks noted hint_old hint_new loads;
       }
 
@@ -387,8 +404,8 @@ pollers_go_on given cpus filters first start p q turns marks old new hint_old hi
     explained x =
     from_mid (by_case polls.steers)
   where
-    mid_is : IsPolling given first start polls.mid turns marks hint_old.steps
-    mid_is = took_is given first start p polls.mid turns marks hint_old.steps polls.took
+    mid_is : IsPolling given first start polls.mid turns marks old.steps hint_old.steps
+    mid_is = took_is given first start p polls.mid turns marks old.steps hint_old.steps polls.took
         polls.takes polls.same x
 
     queue : polls.mid.queue ≡ p.queue

@@ -24,6 +24,8 @@ use Rattle.dev_flow_table.specs.Folds.{Placement, after_turn, table_after}
 use Rattle.dev_flow_table.specs.Tables.{Table, cleared, entries, weighed}
 use Rattle.hint_words.specs.declared.step.HintStep.{HintStep}
 use Rattle.hint_words.specs.declared.step.HintStep.TheVariants.{Load, Store}
+use Rattle.hop_rule.specs.Boards.{gate_steps}
+use Rattle.hop_rule.specs.Gates.{visit_number}
 use Rattle.hop_rule.specs.declared.sizes.BoardSizes.{BoardSizes}
 use Rattle.hop_rule.specs.declared.step.BoardStep.{BoardStep}
 use Rattle.hop_rule.specs.declared.step.BoardStep.TheVariants.{Gate, Lane, Weighed}
@@ -31,7 +33,8 @@ use Rattle.hop_rule.specs.declared.step.Change.TheVariants.{Offered}
 use Rattle.hop_rule.specs.declared.step.GateStep.TheVariants.{Left, Read, Turned}
 use Rattle.hop_rule.specs.declared.step.LaneStep.TheVariants.{Freed}
 use Rattle.board_api.specs.Seats.{BoardSeatView, Adds}
-use Rattle.board_api.specs.StepWords.{is_marked, low_half}
+use Rattle.board_api.specs.OwnSteps.{ReadsIn}
+use Rattle.board_api.specs.StepWords.{is_marked, low_half, openings_in}
 use Rattle.hop_delivery.specs.Orders.Turns.{AreQuiet, Turn, visit_with}
 use Rattle.steer_model.specs.State.Setup.{Setup, packet_hash}
 use Rattle.steer_model.specs.Steps.Pollers.{filter_for}
@@ -55,6 +58,24 @@ abbrev pub read_steps : ℕ → ℕ → Reading → List BoardStep
 read_steps queues q r =
     Gate (Read (2 * queues + 1) r.online) ∷ Gate (Read (2 * queues) r.socket)
     ∷ Gate (Read (queues + q) r.flows) ∷ Gate (Read q r.mask) ∷ []
+
+-- A seat with these steps read each of the four settings in a visit with this number.
+pub record AreRead (queues q : ℕ) (r : Reading) (own : List BoardStep) (number : ℕ)
+    : Type 0 where
+  pub mask : ReadsIn own number q r.mask
+  pub flows : ReadsIn own number (queues + q) r.flows
+  pub socket : ReadsIn own number (2 * queues) r.socket
+  pub online : ReadsIn own number (2 * queues + 1) r.online
+
+-- What a poller has kept was read by its seat, in a visit with the number that is kept with it.
+abbrev pub KeepsReading : ℕ → Poller → List BoardStep → Type 0
+KeepsReading queues p own = IfSome p.kept (λ k. AreRead queues p.queue k.reading own k.visit)
+
+-- The four settings were read now, or nothing was done; and they are as they were read in a visit
+-- with the number of the seat's visit.
+pub record Reads (queues q : ℕ) (r : Reading) (old new : BoardSeatView) : Type 0 where
+  pub steps : (new ≡ old) ⊎ Adds (read_steps queues q r) old new
+  pub are : AreRead queues q r new.steps (visit_number (gate_steps old.steps))
 
 -- The table after a look at the flow word: cleared, with the word's size, if another word was seen
 -- before.
@@ -128,16 +149,17 @@ abbrev pub HasLanesBelow : ℕ → Table → Type 0
 HasLanesBelow cpus table =
     (class : ℕ) → class < length table.rows → IfSome (entries table class).lane (λ l. l < cpus)
 
--- A poller chose a processor for a packet, in a visit: it read the settings, looked up the socket
--- flow table, loaded the head that the rule looks at, and chose by these. `flows` is the flow word
--- that it had seen before, and `seen` the one that it has seen now.
+-- A poller chose a processor for a packet, in a visit: it read the settings or had kept them from a
+-- visit with the same number, looked up the socket flow table, loaded the head that the rule looks
+-- at, and chose by these. `flows` is the flow word that it had seen before, and `seen` the one that
+-- it has seen now.
 pub record Chooses (given : Setup) (q id flows seen : ℕ) (before after : Table) (choice : Choice)
     (old new : BoardSeatView) (hint_old hint_new : SeatView HintStep) : Type 0 where
   pub reading : Reading
   pub want : Option ℕ
   pub head : Option ℕ
   pub mid : BoardSeatView
-  pub reads : Adds (read_steps (length given.homes) q reading) old mid
+  pub reads : Reads (length given.homes) q reading old mid
   pub looks : LooksUp given.cpus
       (socket_entry (socket_size_in reading.socket)
       (class_read given id (refreshed flows reading.flows before)) (packet_hash given id))
@@ -152,6 +174,12 @@ pub record Chooses (given : Setup) (q id flows seen : ℕ) (before after : Table
       ≡ weighed (refreshed flows reading.flows before)
       (class_read given id (refreshed flows reading.flows before)) choice
   pub word : seen ≡ reading.flows
+
+-- By a choice a poller became another: it has seen a flow word, by which it may have cleared its
+-- table, and what it has kept of the settings was read by its seat, which has these steps now.
+pub record Rereads (queues : ℕ) (p q : Poller) (own : List BoardStep) : Type 0 where
+  pub kept : KeepsReading queues q own
+  pub same : q ≡ record p { flows = q.flows; table = q.table; kept = q.kept }
 
 -- ---- the packet's own words
 
@@ -236,7 +264,8 @@ abbrev pub as_told : Turn → Placement
 as_told t = record { chosen = t.chosen; put = Some t.answer }
 
 -- The seat made one visit of the receive board with one put, as this turn says, and what the turn
--- says is by what the poller read, looked up and loaded in the visit.
+-- says is by what the poller looked up and loaded in the visit, and by settings that the seat read
+-- in a visit with the same number.
 pub record Visits (given : Setup) (filters q flows seen : ℕ) (before after : Table)
     (count_old count_new : ℕ) (turn : Turn) (old new : BoardSeatView)
     (hint_old hint_new : SeatView HintStep) : Type 0 where
@@ -251,8 +280,7 @@ pub record Visits (given : Setup) (filters q flows seen : ℕ) (before after : T
   pub head : Option ℕ
   pub hint_mid : SeatView HintStep
   pub hint_marked : SeatView HintStep
-  pub reads : (d : BoardStep) → Contains (read_steps (length given.homes) q reading) d
-      → Contains turn.early d
+  pub reads : AreRead (length given.homes) q reading new.steps (openings_in turn.word)
   pub looks : LooksUp given.cpus
       (socket_entry (socket_size_in reading.socket)
       (class_read given turn.chosen.id (refreshed flows reading.flows before))
@@ -325,6 +353,7 @@ EmptiesHand p q =
       table = q.table;
       choices = q.choices;
       accepted = q.accepted;
+      kept = q.kept;
     }
 
 -- A poller found the packet in its hand announced, steered it in one visit, and noted the choice.

@@ -2,7 +2,7 @@
 -- of steps have the newest first (kernel scaling chapter, sections RPS and RFS).
 use Rattle.std.specs.Prelude.{◌≡◌, ℕ, ◌<◌, false, List, [], ◌∷◌, ◌++◌, Option, Some, None}
 use Rattle.std.specs.Prelude.{length, map, nat_lt, All, IfSome, if◌then◌else◌}
-use Rattle.std.specs.List.{Contains, filter_map}
+use Rattle.std.specs.List.{filter_map}
 use Rattle.std.specs.Option.{is_some}
 use Rattle.rtrb.specs.Ring.{received}
 use Rattle.linearization.specs.Orders.{StepBy, steps_of}
@@ -12,6 +12,7 @@ use Rattle.dev_flow_table.specs.Folds.{after_turn}
 use Rattle.dev_flow_table.specs.Tables.{Table, cleared}
 use Rattle.hint_words.specs.declared.step.HintStep.{HintStep}
 use Rattle.hint_words.specs.declared.step.HintStep.TheVariants.{Load, Store}
+use Rattle.board_api.specs.StepWords.{openings_in}
 use Rattle.hop_rule.specs.Moments.{nth_step}
 use Rattle.hop_rule.specs.declared.step.BoardStep.{BoardStep}
 use Rattle.hop_delivery.specs.Orders.Turns.{Turn}
@@ -20,18 +21,17 @@ use Rattle.run_words.specs.Numbers.{hint_number}
 use Rattle.run_words.specs.Values.{flows_in, place_in, socket_size_in}
 use Rattle.run_words.specs.declared.hint_word.HintWord.TheVariants as hint
 use Rattle.run_words.specs.declared.values.TheConstants.{STEERED}
-use Rattle.run_workers.specs.Hands.Pollers.{LoadedHead, as_told, choice_read, class_read}
+use Rattle.run_workers.specs.Hands.Pollers.{AreRead, LoadedHead, as_told, choice_read, class_read}
 use Rattle.run_workers.specs.Hands.Pollers.{count_after}
-use Rattle.run_workers.specs.Hands.Pollers.{looks_to_head, read_steps, refreshed, socket_entry}
+use Rattle.run_workers.specs.Hands.Pollers.{looks_to_head, refreshed, socket_entry}
 use Rattle.run_workers.specs.declared.poller.Poller.{Poller}
 use Rattle.run_workers.specs.declared.poller.Reading.{Reading}
 use Rattle.run_words.specs.Lists.{oldest_first}
 use Rattle.run_workers.specs.Records.Growth.{held}
 use Rattle.run_workers.specs.Records.Words.{Mark}
 
--- A turn of a poller, the settings that it read in its visit, the step of its seat at the hint
--- words by which it looked up the socket flow table, if it did, and the step by which it marked its
--- packet.
+-- A turn of a poller, the settings by which it was, the step of its seat at the hint words by which
+-- it looked up the socket flow table, if it did, and the step by which it marked its packet.
 pub record PolledTurn : Type 0 where
   pub turn : Turn
   pub reading : Reading
@@ -97,15 +97,16 @@ module _ (first start : ℕ) where
   abbrev pub table_of_turn : List PolledTurn → PolledTurn → Table
   table_of_turn ss s = refreshed (last_flows ss) s.reading.flows (polled_table ss)
 
-  module _ (given : Setup) (packets q : ℕ) (hints : List HintStep) where
-    -- A turn of queue q, after these, was by what it read, looked up and loaded in its visit: its
-    -- choice is the rule's for these, and the packet was put with its hash. It marked the packet
-    -- after its look and after the marks of all these turns.
+  module _ (given : Setup) (packets q : ℕ) (rx : List BoardStep) (hints : List HintStep)
+    where
+    -- A turn of queue q, after these, was by what it looked up and loaded in its visit, and by
+    -- settings that its seat read in a visit with the same number: its choice is the rule's for
+    -- these, and the packet was put with its hash. It marked the packet after its look and after
+    -- the marks of all these turns.
     pub record IsPolled (ss : List PolledTurn) (s : PolledTurn) : Type 0 where
       pub within : s.turn.chosen.id < packets
       pub hash : s.turn.hash ≡ packet_hash given s.turn.chosen.id
-      pub reads : (d : BoardStep) → Contains (read_steps (length given.homes) q s.reading) d
-          → Contains s.turn.early d
+      pub reads : AreRead (length given.homes) q s.reading rx (openings_in s.turn.word)
       pub want : Option ℕ
       pub looks : HasLookedUp given.cpus
           (socket_entry (socket_size_in s.reading.socket)
@@ -130,12 +131,12 @@ module _ (first start : ℕ) where
     AllPolled (s ∷ ss) = IsPolled ss s × AllPolled ss
 
 -- What a poller keeps of its turns, which are among those that explain its seat's list, of their
--- marks among those of the seat, and of the steps of its seat at the hint words. The journal has
--- the choices of the turns; the packets that came out of the ring are those that were chosen for,
--- and the one in hand; the flow table and the count are those of the turns. `first` is the queue's
--- flow word at the start.
+-- marks among those of the seat, and of the steps of its seat at the board (`rx`) and at the hint
+-- words. The journal has the choices of the turns; the packets that came out of the ring are those
+-- that were chosen for, and the one in hand; the flow table and the count are those of the turns.
+-- `first` is the queue's flow word at the start.
 pub record IsPolling (given : Setup) (first start : ℕ) (p : Poller) (turns : List (StepBy Turn))
-    (marks : List (StepBy Mark)) (hints : List HintStep) : Type 0 where
+    (marks : List (StepBy Mark)) (rx : List BoardStep) (hints : List HintStep) : Type 0 where
   pub polled : List PolledTurn
   pub own : turns_in polled ≡ steps_of p.queue turns
   pub marked : marks_in polled ≡ steps_of p.queue marks
@@ -145,4 +146,4 @@ pub record IsPolling (given : Setup) (first start : ℕ) (p : Poller) (turns : L
   pub flows : p.flows ≡ last_flows first start polled
   pub table : p.table ≡ polled_table first start polled
   pub accepted : p.accepted ≡ accepted_turns polled
-  pub are : AllPolled first start given p.choices.room p.queue hints polled
+  pub are : AllPolled first start given p.choices.room p.queue rx hints polled

@@ -7,6 +7,7 @@ use Rattle.steer_base.specs.Counters.{rounded_up}
 use Rattle.dev_flow_table.specs.Tables.{cleared}
 use Rattle.hint_words.specs.declared.step.HintStep.{HintStep}
 use Rattle.board_api.specs.Seats.{BoardSeatView}
+use Rattle.hop_rule.specs.declared.step.BoardStep.{BoardStep}
 use Rattle.hop_delivery.specs.Orders.Turns.{Explained, Turn}
 use Rattle.steer_model.specs.State.Setup.{Setup}
 use Rattle.run_words.specs.Values.{flows_in}
@@ -21,11 +22,11 @@ use Rattle.run_workers.specs.Records.Words.{Mark, Note}
 abbrev pub PollersBegin : Type 0
 PollersBegin =
     (given : Setup) (first start : ℕ) (p : Poller) (turns : List (StepBy Turn))
-    (marks : List (StepBy Mark)) (hints : List HintStep)
+    (marks : List (StepBy Mark)) (rx : List BoardStep) (hints : List HintStep)
     → p.hand ≡ None → p.flows ≡ first → p.choices.items ≡ [] → p.accepted ≡ 0
     → p.table ≡ cleared (rounded_up (flows_in first)) start false → received p.ring ≡ []
     → steps_of p.queue turns ≡ [] → steps_of p.queue marks ≡ []
-    → IsPolling given first start p turns marks hints
+    → IsPolling given first start p turns marks rx hints
 
 -- What a poll leaves: the turns that explain the seat's list and their marks, with at most one more
 -- of the queue, and the poller's record over them. If stores before were for these, so they are
@@ -38,7 +39,7 @@ pub record PollsOn (given : Setup) (filters first start : ℕ) (p q : Poller)
   pub more_marks : List (StepBy Mark)
   pub marks_grow : TurnsGrow p.queue marks more_marks
   pub explained : Explained new.steps more
-  pub keeps : IsPolling given first start q more more_marks hint_new.steps
+  pub keeps : IsPolling given first start q more more_marks new.steps hint_new.steps
   pub stores : (noted : List (StepBy Note))
       → StoresAreFor given filters turns marks noted hint_old.steps
       → StoresAreFor given filters more more_marks noted hint_new.steps
@@ -49,7 +50,8 @@ PollersGoOn =
     (given : Setup) (cpus filters first start : ℕ) (p q : Poller) (turns : List (StepBy Turn))
     (marks : List (StepBy Mark)) (old new : BoardSeatView) (hint_old hint_new : SeatView HintStep)
     → Polls given filters p q old new hint_old hint_new → IsPoller cpus p
-    → Explained old.steps turns → IsPolling given first start p turns marks hint_old.steps
+    → Explained old.steps turns
+    → IsPolling given first start p turns marks old.steps hint_old.steps
     → PollsOn given filters first start p q turns marks new hint_old hint_new
 
 -- A turn, mark or note of one producer leaves those of another.
@@ -59,12 +61,13 @@ OtherTurnsStay A =
     → steps_of p more ≡ steps_of p turns
 
 -- A poller's record stays while its seat makes no turn of its queue, and while the seat makes more
--- steps at the hint words.
+-- steps at the board and at the hint words.
 abbrev pub PollersStay : Type 0
 PollersStay =
     (given : Setup) (first start : ℕ) (p : Poller) (turns more : List (StepBy Turn))
-    (marks more_marks : List (StepBy Mark)) (hints after : List HintStep)
+    (marks more_marks : List (StepBy Mark)) (rx rx_after : List BoardStep)
+    (hints after : List HintStep)
     → steps_of p.queue more ≡ steps_of p.queue turns
-    → steps_of p.queue more_marks ≡ steps_of p.queue marks → Grows hints after
-    → IsPolling given first start p turns marks hints
-    → IsPolling given first start p more more_marks after
+    → steps_of p.queue more_marks ≡ steps_of p.queue marks → Grows rx rx_after
+    → Grows hints after → IsPolling given first start p turns marks rx hints
+    → IsPolling given first start p more more_marks rx_after after

@@ -1,5 +1,14 @@
 use Rattle.run_workers.proofs.Names.{◌≡◌, ℕ, ◌<◌, true, subst, sym, unwrap_or, slice_index, has}
-use Rattle.run_workers.proofs.Names.{IsClassOf, HasLanesBelow, Poller}
+use Rattle.run_workers.proofs.Names.{IsClassOf, HasLanesBelow, Poller, ap, length, ◌∙◌, Option}
+use Rattle.run_workers.proofs.Names.{Table, refreshed, weighed, packet_hash}
+use Rattle.steer_base.specs.Choices.{desired_cpu, looks_at_head, migrate, rps_choice_of}
+use Rattle.steer_base.specs.HashTables.{place_in_rows}
+use Rattle.dev_flow_table.specs.Tables.{entries}
+use Rattle.run_words.specs.Values.{cpus_in}
+use Rattle.run_workers.specs.Hands.Pollers.{KeepsReading, LooksUp, LoadsHead, Reads, class_read}
+use Rattle.run_workers.specs.Hands.Pollers.{socket_entry}
+use Rattle.run_workers.proofs.Hands.ReadLemmas.{reread_same}
+use Rattle.run_workers.proofs.Hands.VisitLemmas.{kept_loaded}
 use Rattle.run_workers.proofs.Hands.ChoiceLemmas.{ChoiceHolds, choice_holds, class_is}
 use Rattle.run_workers.proofs.Hands.ChoiceLemmas.{desired_below}
 use Rattle.run_workers.proofs.Hands.ChoiceLemmas.{home_below, plain_below, refreshed_below}
@@ -49,3 +58,67 @@ returns-clause-class g c = (holds g c).class
 
 pub returns-clause-set : goal.returns-clause-set
 returns-clause-set g c = (holds g c).set
+
+pub returns-clause-reads : goal.returns-clause-reads
+returns-clause-reads g c =
+    let homes = length c.args.shared.now.given.homes in
+    record {
+      kept = kept_loaded homes c.read-reading.new.self c.read-reading.new.self.table
+          c.class-class.result c.head-head.result c.read-reading.new.seat c.head-head.new.seat
+          c.head-head.ensures.loads
+          (subst (λ (n : ℕ). KeepsReading n c.read-reading.new.self
+          c.read-reading.new.seat.steps) c.queues.ensures.value c.read-reading.ensures.kept);
+      same = reread_same c.args.self.now c.read-reading.new.self c.read-reading.result.flows
+          (refreshed c.args.self.now.flows c.read-reading.result.flows c.args.self.now.table)
+          c.weigh.new.self c.read-reading.ensures.same;
+    }
+
+pub returns-clause-chooses : goal.returns-clause-chooses
+returns-clause-chooses g c =
+    let given = c.args.shared.now.given in
+    let reading = c.read-reading.result in
+    let after = c.read-reading.new.self in
+    let before : Table = refreshed c.args.self.now.flows reading.flows c.args.self.now.table in
+    let same = c.read-reading.ensures.same in
+    let table : after.table ≡ before = ap (λ (p : Poller). p.table) same in
+    let hash : c.hash_of-hash.result ≡ packet_hash given c.args.id = c.hash_of-hash.ensures in
+    let class : c.class-class.result ≡ class_read given c.args.id before =
+    c.class-class.ensures ∙ (λ i. place_in_rows (table i).rows (hash i)) in
+    let cpus : c.cpus-cpus.result ≡ given.cpus = c.cpus-cpus.ensures.value in
+    let online : c.cpus_in-online.result ≡ cpus_in reading.online given.cpus =
+    c.cpus_in-online.ensures.value ∙ ap (cpus_in reading.online) cpus in
+    let mask : c.cpus_in.result ≡ cpus_in reading.mask given.cpus =
+    c.cpus_in.ensures.value ∙ ap (cpus_in reading.mask) cpus in
+    let home : c.home-home.result ≡ slice_index given.homes c.args.self.now.queue =
+    c.home-home.ensures ∙ ap (λ (p : Poller). slice_index given.homes p.queue) same in
+    let plain : c.plain.inside.0 ≡ rps_choice_of (cpus_in reading.mask given.cpus)
+    (packet_hash given c.args.id) (cpus_in reading.online given.cpus)
+    (slice_index given.homes c.args.self.now.queue) =
+    c.plain.view_is
+    ∙ (c.rps_choice-plain.ensures.value
+    ∙ (λ i. rps_choice_of (mask i) (hash i) (online i) (home i))) in
+    let desired =
+    c.desired_cpu-desired.ensures
+    ∙ (λ i. desired_cpu (class i) c.look-want.result (online i) (plain i)) in
+    record {
+      reading = reading;
+      want = c.look-want.result;
+      head = c.head-head.result;
+      mid = c.read-reading.new.seat;
+      reads = subst (λ (n : ℕ). Reads n c.args.self.now.queue reading c.args.seat.now
+          c.read-reading.new.seat) c.queues.ensures.value c.read-reading.ensures.reads;
+      looks = subst (λ (e : Option ℕ). LooksUp given.cpus e c.args.hint.now
+          c.look-want.new.seat c.look-want.result)
+          (λ i. socket_entry (c.socket_size_in.ensures.value i) (class i) (hash i))
+          c.look-want.ensures.looks;
+      loads = subst (λ (z : Table × Option ℕ). LoadsHead z.0 z.1 c.read-reading.new.seat
+          c.head-head.new.seat c.head-head.result) (λ i. (table i, class i))
+          c.head-head.ensures.loads;
+      looked = c.head-head.ensures.looks
+          ∙ (λ i. looks_at_head (class i) (entries (table i)) (desired i) (has (online i)));
+      rule = c.weigh.ensures.choice
+          ∙ (λ i. migrate (class i) c.look-want.result (desired i) (entries (table i))
+          (λ _. unwrap_or c.head-head.result 0) (has (online i)));
+      table = c.weigh.ensures.table ∙ (λ i. weighed (table i) (class i) c.weigh.result);
+      word = ap (λ (p : Poller). p.flows) same;
+    }

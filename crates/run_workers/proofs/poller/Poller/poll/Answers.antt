@@ -1,6 +1,8 @@
-use Rattle.run_workers.specs.Hands.Pollers.{FindsAnnounced}
+use Rattle.run_workers.specs.Hands.Pollers.{FindsAnnounced, KeepsReading}
 use Rattle.run_workers.proofs.Names.{ℕ, Option, inl, inr, refl, ap, subst, ◌∙◌, gate_steps, closed}
-use Rattle.run_workers.proofs.Names.{visit, Chosen, BoardSeatView}
+use Rattle.run_workers.proofs.Names.{visit, Chosen, BoardSeatView, sym, length, [], ◌∷◌, Gate}
+use Rattle.run_workers.proofs.Names.{Entered, Left, Turned, Poller}
+use Rattle.run_workers.proofs.Hands.ReadLemmas.{kept_added}
 use Rattle.run_workers.proofs.Hands.VisitLemmas.{stays_inside, stays_open, turn, visits}
 use Rattle.run_workers.proofs.Hands.WaitLemmas.{waited}
 use Rattle.run_workers.proofs.poller.Poller.poll.Goals as goal
@@ -86,13 +88,41 @@ returns-in-Closed-clause-polls g c =
       });
     }
 
-pub returns-in-Ok-clause-open : goal.returns-in-Ok-clause-open
-returns-in-Ok-clause-open g c =
-    ap (λ (s : BoardSeatView). closed (gate_steps s.steps)) c.leave.ensures
-    ∙ stays_open c.args.shared.now.given c.args.shared.now.filters c.take-took.new.self.queue
-    c.take-took.new.self.flows c.steer.new.self.flows c.take-took.new.self.table
-    c.steer.new.self.table c.take-took.new.self.accepted c.steer.new.self.accepted
-    (record { id = c.in-Some.id; choice = c.steer.result }) c.enter.new.seat c.steer.new.seat
-    c.announced.new.seat c.steer.new.hint c.steer.ensures.steers
-    (ap (λ (s : BoardSeatView). closed (gate_steps s.steps)) c.in-Ok.ensures.step.2
-    ∙ c.requires.open)
+pub returns-in-Ok-clause-outside : goal.returns-in-Ok-clause-outside
+returns-in-Ok-clause-outside g c = (
+  ap (λ (s : BoardSeatView). visit (gate_steps s.steps)) c.leave.ensures,
+  ap (λ (s : BoardSeatView). closed (gate_steps s.steps)) c.leave.ensures
+      ∙ stays_open c.args.shared.now.given c.args.shared.now.filters c.take-took.new.self.queue
+      c.take-took.new.self.flows c.steer.new.self.flows c.take-took.new.self.table
+      c.steer.new.self.table c.take-took.new.self.accepted c.steer.new.self.accepted
+      (record { id = c.in-Some.id; choice = c.steer.result }) c.enter.new.seat c.steer.new.seat
+      c.announced.new.seat c.steer.new.hint c.steer.ensures.steers
+      (ap (λ (s : BoardSeatView). closed (gate_steps s.steps)) c.in-Ok.ensures.step.2
+      ∙ c.requires.outside.1),
+)
+
+pub steer-requires-clause-kept : goal.steer-requires-clause-kept
+steer-requires-clause-kept g c =
+    let homes = length c.args.shared.now.given.homes in
+    kept_added homes c.take-took.new.self (Gate (Entered c.in-Ok.ensures.step.0) ∷ [])
+    c.args.seat.now c.enter.new.seat c.in-Ok.ensures.step.2
+    (subst (λ (p : Poller). KeepsReading homes p c.args.seat.now.steps)
+    (sym c.take-took.ensures.same) c.requires.kept)
+
+pub returns-in-Ok-clause-kept : goal.returns-in-Ok-clause-kept
+returns-in-Ok-clause-kept g c =
+    kept_added (length c.args.shared.now.given.homes) c.steer.new.self (Gate Left ∷ [])
+    c.steer.new.seat c.leave.new.seat c.leave.ensures c.steer.ensures.kept
+
+pub returns-in-Closed-clause-kept : goal.returns-in-Closed-clause-kept
+returns-in-Closed-clause-kept g c =
+    let homes = length c.args.shared.now.given.homes in
+    kept_added homes c.take-took.new.self (Gate Left ∷ Gate (Turned c.in-Closed.word) ∷ [])
+    c.args.seat.now c.enter.new.seat c.in-Closed.ensures.step.1
+    (subst (λ (p : Poller). KeepsReading homes p c.args.seat.now.steps)
+    (sym c.take-took.ensures.same) c.requires.kept)
+
+pub returns-in_default-clause-kept : goal.returns-in_default-clause-kept
+returns-in_default-clause-kept g c =
+    subst (λ (p : Poller). KeepsReading (length c.args.shared.now.given.homes) p
+    c.args.seat.now.steps) (sym c.take-took.ensures.same) c.requires.kept

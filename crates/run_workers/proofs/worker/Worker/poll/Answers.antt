@@ -15,13 +15,13 @@ poll-requires g c =
       hint_table = c.requires.is.hint_table;
       words = words_within _ _ at.room c.requires.is.sizes;
       filters = c.requires.is.sizes.filters;
-      outside = c.requires.is.rx.outside;
-      «open» = c.requires.is.rx.gate;
+      outside = (c.requires.is.rx.outside, c.requires.is.rx.gate);
       queue = at.within;
       settings = c.requires.is.sizes.queue_settings;
       cpus = c.requires.is.sizes.cpus;
       room = at.room;
       is = at.is;
+      kept = at.kept;
     }
 
 pub returns : goal.returns
@@ -32,7 +32,8 @@ returns g c =
     record {
       goes = poll_goes_on _ c.args.self.now _ c.args.seats.now _ c.args.i c.index_mut.result.now
           c.poll.new.self refl refl refl refl refl there c.requires.is c.poll.ensures.polls
-          c.poll.ensures.is c.poll.ensures.ring c.poll.ensures.outside c.poll.ensures.open;
+          c.poll.ensures.is c.poll.ensures.kept c.poll.ensures.ring c.poll.ensures.outside.0
+          c.poll.ensures.outside.1;
       one = record {
         x = c.index_mut.result.now;
         y = c.poll.new.self;
