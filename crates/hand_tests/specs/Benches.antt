@@ -12,7 +12,7 @@ use Rattle.board_api.specs.Views.{BoardView}
 use Rattle.run_words.specs.Numbers.{word_count}
 use Rattle.run_workers.specs.Hands.Deltas.{no_lane, this_lane}
 use Rattle.run_workers.specs.Hands.Drains.{IsDrain}
-use Rattle.run_workers.specs.Hands.Pollers.{IsPoller}
+use Rattle.run_workers.specs.Hands.Pollers.{IsPoller, KeepsReading}
 use Rattle.run_workers.specs.declared.drain.Drain.{Drain}
 use Rattle.run_workers.specs.declared.drain.Exit.TheVariants.{Inboxes}
 use Rattle.run_workers.specs.declared.poller.Poller.{Poller}
@@ -70,6 +70,7 @@ pub record IsWorker (board : BoardView) (shared : Shared) (hand : Poller) (drain
   pub queue : hand.queue ≡ drain.lane
   pub room : hand.choices.room ≡ board.sizes.room
   pub poller : IsPoller shared.given.cpus hand
+  pub kept : KeepsReading (length shared.given.homes) hand seat.steps
   pub exit : drain.exit ≡ Inboxes
   pub drain_is : IsDrain shared.given drain seat.steps
   pub rests : RestsBut (this_lane drain.lane) board drain.lane seat

@@ -1,5 +1,5 @@
 //! A receive board of two lanes for two receive queues, with two workers, a visitor and a closer.
-ghost use Rattle.std.specs.Prelude.{◌≡◌, ◌<◌, ◌≤◌, ◌+◌, ◌-◌, IfOk, IfSome, length, []};
+ghost use Rattle.std.specs.Prelude.{◌≡◌, ◌<◌, ◌≤◌, ◌+◌, ◌-◌, IfOk, IfSome, None, length, []};
 ghost use Rattle.std.specs.Vec.{vec_len};
 ghost use Rattle.steer_base.specs.declared.limits.TheConstants.{MAX_PACKETS};
 ghost use Rattle.steer_model.specs.State.Ranges.{AreOfFlows};
@@ -153,6 +153,7 @@ fn worker_of(
     requires queue { poller.queue ≡ drain.lane }
     requires room { poller.choices.room ≡ board.now.sizes.room }
     requires poller { IsPoller shared.now.given.cpus poller }
+    requires kept { poller.kept ≡ None }
     requires exit { drain.exit ≡ Inboxes }
     requires drain { IsDrain shared.now.given drain [] }
     ensures { IsWorker board.now shared.now result.poller result.drain result.seat result.hint }

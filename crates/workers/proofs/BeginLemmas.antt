@@ -177,6 +177,7 @@ module _ (settings : BoardsHaveSettings) (back : ReadBack) (begins : WorkersBegi
         flows = f.flows ∙ ap first_word (sym queue);
         choices = ap (λ (j : Journal Chosen). j.items) f.choices;
         accepted = f.accepted;
+        kept = f.kept;
         table =
             f.table
             ∙ (ap (λ q. cleared (first_count plan q) plan.start false) (sym queue)

@@ -367,7 +367,7 @@ module _ (i : Input) (s : Run) (left : Left) (over : IsOver i s)
         (arrived-below (length i.packets) s.stage.late.items p.actor.queue over.back.wire.all) in
         let front =
         laws.fronts s.stage.shared.given (k.0 p.actor.queue) s.stage.rx.sizes.start p.actor k.1 k.2
-        p.by.seats.hint.steps s.stage.late.items came.0 k.3.keeps
+        p.by.seats.rx.steps p.by.seats.hint.steps s.stage.late.items came.0 k.3.keeps
         (poller-hand crew over.free (q % length crew) p.by p.worker (q / length crew) p.actor p.is)
         all few in
         subst (IsFront (list_at h.choices q)) (sym is.arrivals)

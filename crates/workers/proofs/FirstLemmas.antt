@@ -78,8 +78,9 @@ pub is_first_poller : (plan : Plan) (room q : ℕ) (x : QueuePlan) (p : Poller)
     → q < length plan.queues → x ≡ slice_index_or plan.queues q x → p.queue ≡ q
     → received p.ring ≡ [] → p.hand ≡ None → p.flows ≡ flows_word (rounded_up x.flows) 0
     → p.table ≡ cleared (rounded_up x.flows) plan.start false → p.choices ≡ journal [] room
-    → p.accepted ≡ 0 → ((cpus : ℕ) → IsPoller cpus p) → IsFirstPoller plan room q p
-is_first_poller plan room q x p less there queue ring hand flows table choices accepted is =
+    → p.accepted ≡ 0 → p.kept ≡ None → ((cpus : ℕ) → IsPoller cpus p)
+    → IsFirstPoller plan room q p
+is_first_poller plan room q x p less there queue ring hand flows table choices accepted kept is =
     let count = sym (count_at plan.queues q x less there) in
     record {
       queue = queue;
@@ -89,5 +90,6 @@ is_first_poller plan room q x p less there queue ring hand flows table choices a
       table = table ∙ ap (λ n. cleared n plan.start false) count;
       choices = choices;
       accepted = accepted;
+      kept = kept;
       is = is;
     }

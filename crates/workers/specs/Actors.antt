@@ -41,6 +41,7 @@ pub record IsFirstPoller (plan : Plan) (room q : ℕ) (p : Poller) : Type 0 wher
   pub table : p.table ≡ cleared (first_count plan q) plan.start false
   pub choices : p.choices ≡ journal [] room
   pub accepted : p.accepted ≡ 0
+  pub kept : p.kept ≡ None
   pub is : (cpus : ℕ) → IsPoller cpus p
 
 -- What empties the lane l to this exit, counts from this number, and has pulled nothing.

@@ -1,6 +1,7 @@
-use Rattle.std.proofs.Common.{◌<◌, ◌-◌, ◌%◌, max, ℕ, sym, ap, subst, ◌∙◌, arith}
+use Rattle.std.proofs.Common.{◌<◌, ◌-◌, ◌%◌, max, ℕ, sym, ap, subst, ◌∙◌, arith, length}
 use Rattle.run_workers.specs.Hands.Deltas.{this_lane}
 use Rattle.run_workers.specs.Hands.Drains.{outs_of}
+use Rattle.run_workers.proofs.Hands.ReadLemmas.{kept_added}
 use Rattle.hand_tests.specs.Benches.{RestsBut}
 use Rattle.hand_tests.proofs.hands.Resting.{serves_rest}
 use Rattle.hand_tests.proofs.hands.drain.Goals as goal
@@ -30,6 +31,9 @@ returns c =
       queue = is.queue ∙ sym same;
       room = is.room;
       poller = is.poller;
+      kept = kept_added (length c.args.shared.now.given.homes) old.poller
+          c.drain.ensures.serves.added old.seat c.drain.new.seat c.drain.ensures.serves.adds
+          is.kept;
       exit = c.drain.ensures.exit ∙ is.exit;
       drain_is = c.drain.ensures.is;
       rests = subst (λ (n : ℕ). RestsBut (this_lane n) c.args.board.now n c.drain.new.seat)

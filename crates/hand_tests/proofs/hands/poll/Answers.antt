@@ -5,6 +5,9 @@ use Rattle.run_workers.proofs.Hands.VisitLemmas.{polls_leave}
 use Rattle.hand_tests.proofs.hands.Resting.{polls_rest}
 use Rattle.hand_tests.proofs.hands.poll.Goals as goal
 
+pub poll-requires-clause-outside : goal.poll-requires-clause-outside
+poll-requires-clause-outside g c = (c.requires.rests.outside, c.requires.rests.gate)
+
 pub returns : goal.returns
 returns g c =
     let is = c.requires in
@@ -21,10 +24,11 @@ returns g c =
       queue = stays.queue ∙ is.queue;
       room = stays.room ∙ is.room;
       poller = c.poll.ensures.is;
+      kept = c.poll.ensures.kept;
       exit = is.exit;
       drain_is = polls_leave given old.drain filters old.poller c.poll.new.self old.seat
           c.poll.new.seat old.hint c.poll.new.hint polls is.drain_is;
       rests = polls_rest (this_lane old.drain.lane) c.args.board.now old.drain.lane old.seat
           c.poll.new.seat given filters old.poller c.poll.new.self old.hint c.poll.new.hint
-          is.rests polls c.poll.ensures.outside c.poll.ensures.open;
+          is.rests polls c.poll.ensures.outside.0 c.poll.ensures.outside.1;
     }

@@ -41,7 +41,7 @@ loop-queue-preserved c =
           (is_first_poller c.args.plan.now c.args.room l.queue c.get.result.now p
           (omega (arith, less, all)) c.get.ensures m.queue
           (ap received m.ring ∙ r.ensures.consumer.0) m.hand m.flows m.table m.choices m.accepted
-          m.is));
+          m.kept m.is));
     }
 
 pub returns : goal.returns
