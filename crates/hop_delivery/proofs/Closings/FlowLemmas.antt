@@ -1,17 +1,11 @@
 -- Delivery in order by the lists that are left.
 use Rattle.std.proofs.Common.{map}
-use Rattle.steer_base.specs.Orders.{InOrder}
-use Rattle.steer_base.specs.declared.put.LaneDrop.{LaneDrop}
-use Rattle.history.specs.Lists.{list_at}
-use Rattle.history.specs.declared.lane_list.LaneList.{LaneList}
-use Rattle.hop_rule.specs.Boards.{out}
-use Rattle.hop_rule.specs.declared.step.LaneStep.TheVariants.{Given}
+use Rattle.steer_base.specs.{Orders.InOrder, declared.put.LaneDrop.LaneDrop}
+use Rattle.history.specs.{Lists.list_at, declared.lane_list.LaneList.LaneList}
 use Rattle.hop_rule.proofs.Puts.{each_accepted_was_put, each_member_was_given}
-use Rattle.board_api.specs.Closings.Closings.{AtEachClosing}
-use Rattle.board_api.specs.Closings.Finals.{lane_list}
+use Rattle.hop_rule.specs.{Boards.out, declared.step.LaneStep.TheVariants.Given}
 use Rattle.board_api.proofs.Left.{lane_is, lane_past, out_is, out_past}
-use Rattle.hop_delivery.specs.Orders.DeliveryLaw.{came_by}
-use Rattle.hop_delivery.specs.Orders.Premises.{MeetsPremises}
+use Rattle.board_api.specs.Closings.{Closings.AtEachClosing, Finals.lane_list}
 use Rattle.hop_delivery.proofs.Names.{◌≡◌, inl, inr, ℕ, ◌≤◌, List, [], ◌∷◌, Some, sym, refl, ap}
 use Rattle.hop_delivery.proofs.Names.{◌∙◌, subst, arith, range_with_len, slice_get, cases_lt}
 use Rattle.hop_delivery.proofs.Names.{StepBy, IsLawful, accepted, own_of, FitSizes, BoardSizes}
@@ -19,6 +13,7 @@ use Rattle.hop_delivery.proofs.Names.{BoardStep, Lane, Offered, Freed, step_lawf
 use Rattle.hop_delivery.proofs.Names.{at_closings, accepted_left}
 use Rattle.hop_delivery.proofs.Orders.DeliveryLemmas.{delivers_in_order}
 use Rattle.hop_delivery.specs.Closings.FlowLaw.{FlowsAreInOrder}
+use Rattle.hop_delivery.specs.Orders.{DeliveryLaw.came_by, Premises.MeetsPremises}
 
 -- a list without a first member is empty
 none-first : (xs : List ℕ) → ((x : ℕ) → slice_get xs 0 ≡ Some x → ⊥) → xs ≡ []

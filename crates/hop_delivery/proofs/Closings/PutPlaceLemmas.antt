@@ -1,33 +1,25 @@
 -- Puts are of turns, one for each packet, and their answers are places.
-use Rattle.std.proofs.Common.{eq-eqb, ne_eqb}
-use Rattle.std.specs.Option.{option_map}
-use Rattle.std.proofs.lemmas.Option.{get_or_from_slice_get, slice_get_within}
-use Rattle.steer_base.specs.Counters.{number}
-use Rattle.steer_base.specs.Drops.{bucket_of}
-use Rattle.steer_base.specs.Entries.{place_in}
-use Rattle.steer_base.specs.Lanes.{LaneLists}
+use Rattle.std.proofs.{Common.eq-eqb, Common.ne_eqb, lemmas.Option.get_or_from_slice_get}
+use Rattle.std.{proofs.lemmas.Option.slice_get_within, specs.Option.option_map}
+use Rattle.steer_base.specs.{Counters.number, Drops.bucket_of, Entries.place_in, Lanes.LaneLists}
 use Rattle.steer_base.specs.declared.put.DropCause.{DropCause}
 use Rattle.backlog.specs.Puts.{answer_by, put_by}
 use Rattle.dev_flow_table.specs.Folds.{IsPutAt}
 use Rattle.history.specs.Lists.{lane_at}
-use Rattle.hop_rule.specs.Moments.{moment_of}
-use Rattle.hop_rule.specs.Owns.{PutMade, put_in, put_made}
-use Rattle.hop_rule.proofs.Moments.{past-next}
-use Rattle.hop_rule.proofs.Parts.{from_moment}
-use Rattle.board_api.specs.Lists.{IsFrontOf}
+use Rattle.hop_rule.proofs.{Moments.past-next, Parts.from_moment}
+use Rattle.hop_rule.specs.{Moments.moment_of, Owns.PutMade, Owns.put_in, Owns.put_made}
 use Rattle.board_api.specs.Laws.Puts.{AcceptedWerePut, DropsWerePut, PutsStand}
-use Rattle.board_api.specs.OwnSteps.{Has, held_before, put_step}
-use Rattle.hop_delivery.specs.Closings.PutPlaces.{AnswersArePlaces, AreTurnsOf, HasTurn}
-use Rattle.hop_delivery.specs.Closings.PutPlaces.{PacketsStand, PutsAreOnce, TurnsPutOnce}
+use Rattle.board_api.specs.{Lists.IsFrontOf, OwnSteps.Has, OwnSteps.held_before, OwnSteps.put_step}
 use Rattle.hop_delivery.proofs.Names.{◌≡◌, ◌≢◌, ℕ, zero, suc, ◌+◌, ◌-◌, List, [], ◌∷◌, ◌++◌, Option}
 use Rattle.hop_delivery.proofs.Names.{Some, None, length, if◌then◌else◌, sym, refl, ap, ◌∙◌, subst}
 use Rattle.hop_delivery.proofs.Names.{arith, slice_get, StepBy, steps_of, lane_drop_cause, Put}
 use Rattle.hop_delivery.proofs.Names.{IsStep, nth_step, BoardSizes, BoardStep, none-some, some-is}
 use Rattle.hop_delivery.proofs.Names.{nth-some, BoardLists, accepted_left, Execution, turns_of}
 use Rattle.hop_delivery.proofs.Names.{Turn, turn_put}
-use Rattle.hop_delivery.proofs.Orders.AccountedLemmas.{nth-all}
-use Rattle.hop_delivery.proofs.Orders.PlaceLemmas.{place-get}
+use Rattle.hop_delivery.proofs.Orders.{AccountedLemmas.nth-all, PlaceLemmas.place-get}
 use Rattle.hop_delivery.proofs.Orders.TurnLemmas.{Places, turns_have_places}
+use Rattle.hop_delivery.specs.Closings.PutPlaces.{AnswersArePlaces, AreTurnsOf, HasTurn}
+use Rattle.hop_delivery.specs.Closings.PutPlaces.{PacketsStand, PutsAreOnce, TurnsPutOnce}
 
 -- what a put step says
 pub said : (l m id x : ℕ) (hash other : Option ℕ) (answer reply : Put)

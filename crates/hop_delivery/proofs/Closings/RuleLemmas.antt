@@ -1,14 +1,8 @@
 -- A choice by what a queue's turns know is a choice by the settings of their visits.
-use Rattle.std.proofs.Common.{◌*◌, cond}
-use Rattle.std.specs.Prelude.{unwrap_or}
-use Rattle.steer_base.specs.Choices.{desired_cpu, rps_choice_of}
-use Rattle.steer_base.specs.Sends.{first_filled}
-use Rattle.steer_base.specs.Sets.{at_hash, has_queue, those_below}
+use Rattle.std.{proofs.Common.◌*◌, proofs.Common.cond, specs.Prelude.unwrap_or}
 use Rattle.steer_base.proofs.SetsLemmas.{those_below-more}
-use Rattle.hop_delivery.specs.Orders.ReceiveSettings.{flows_word, mask, mask_word, queues}
-use Rattle.hop_delivery.specs.Orders.Runs.{IsByRule, settings_of_visit, settings_at, word_of}
-use Rattle.hop_delivery.specs.Closings.TurnReads.{HasSeen, IsBySeen, Knows, RulesAreByReads}
-use Rattle.hop_delivery.specs.Closings.TurnReads.{PicksAreByReads}
+use Rattle.steer_base.specs.{Choices.desired_cpu, Choices.rps_choice_of, Sends.first_filled}
+use Rattle.steer_base.specs.Sets.{at_hash, has_queue, those_below}
 use Rattle.hop_delivery.proofs.Names.{◌≡◌, ℕ, zero, suc, ◌+◌, ◌<◌, ◌≤◌, ◌==◌, List, [], ◌∷◌, ◌++◌}
 use Rattle.hop_delivery.proofs.Names.{Bool, true, Option, Some, None, take, drop, if◌then◌else◌}
 use Rattle.hop_delivery.proofs.Names.{sym, refl, ap, ◌∙◌, arith, nat_lt, slice_index, migrate}
@@ -16,7 +10,10 @@ use Rattle.hop_delivery.proofs.Names.{entry, of_class, current_lane, has, Chosen
 use Rattle.hop_delivery.proofs.Names.{nth_step, BoardSizes, BoardStep, nth-inside, nth-some}
 use Rattle.hop_delivery.proofs.Names.{BoardLists, Queues, online_word, receive_steering, Execution}
 use Rattle.hop_delivery.proofs.Names.{Steering, goal_of, turns_of, Turn, Explained, accepted_left}
-use Rattle.hop_delivery.proofs.Names.{TurnsKnowSettings}
+use Rattle.hop_delivery.{proofs.Names.TurnsKnowSettings, specs.Closings.TurnReads.HasSeen}
+use Rattle.hop_delivery.specs.Closings.TurnReads.{IsBySeen, Knows, RulesAreByReads, PicksAreByReads}
+use Rattle.hop_delivery.specs.Orders.ReceiveSettings.{flows_word, mask, mask_word, queues}
+use Rattle.hop_delivery.specs.Orders.Runs.{IsByRule, settings_of_visit, settings_at, word_of}
 
 -- the last resize before a choice, by the shapes up to it
 since-same : (f g : ℕ → ℕ) (i : ℕ) → ((j : ℕ) → j ≤ i → f j ≡ g j)

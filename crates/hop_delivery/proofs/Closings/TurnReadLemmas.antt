@@ -1,25 +1,19 @@
 -- What a turn knows is of the settings of its visit.
-use Rattle.std.proofs.Common.{append_assoc}
+use Rattle.std.proofs.{Common.append_assoc, lemmas.List.Elements.filter_map-append}
 use Rattle.std.specs.List.{Contains, cons_option}
-use Rattle.std.proofs.lemmas.List.Elements.{filter_map-append}
+use Rattle.hop_rule.proofs.Moments.{nth-between, past-between}
 use Rattle.hop_rule.specs.Boards.{gate_steps}
 use Rattle.hop_rule.specs.Gates.{opened, own_settings, visit, visit_number}
-use Rattle.hop_rule.specs.Owns.{visit_in, visits_of}
-use Rattle.hop_rule.specs.declared.step.GateStep.TheVariants.{Read}
-use Rattle.hop_rule.proofs.Moments.{nth-between, past-between}
-use Rattle.board_api.specs.Laws.Heads.{NumberedReadsAreSettings, ReadsAreSettings}
-use Rattle.board_api.specs.OwnSteps.{Has}
-use Rattle.board_api.specs.StepWords.{openings_in}
-use Rattle.board_api.proofs.AddedSteps.{quiet_steps_stay}
-use Rattle.hop_delivery.specs.Orders.Runs.{settings_of_visit}
-use Rattle.hop_delivery.specs.Orders.Turns.{visit_with}
-use Rattle.hop_delivery.specs.Closings.TurnReads.{HasRead}
+use Rattle.hop_rule.specs.{Owns.visit_in, Owns.visits_of, declared.step.GateStep.TheVariants.Read}
+use Rattle.board_api.{proofs.AddedSteps.quiet_steps_stay, specs.Laws.Heads.NumberedReadsAreSettings}
+use Rattle.board_api.specs.{Laws.Heads.ReadsAreSettings, OwnSteps.Has, StepWords.openings_in}
 use Rattle.hop_delivery.proofs.Names.{◌≡◌, ℕ, zero, suc, inl, inr, List, [], ◌∷◌, ◌++◌, length}
 use Rattle.hop_delivery.proofs.Names.{Some, None, sym, refl, ap, ◌∙◌, subst, arith, dite}
 use Rattle.hop_delivery.proofs.Names.{ℕ_discrete, StepBy, steps_of, if_same, if_other, nth_step}
 use Rattle.hop_delivery.proofs.Names.{past, closer, BoardSizes, BoardStep, Gate, Entered, Left}
 use Rattle.hop_delivery.proofs.Names.{none-some, some-is, BoardLists, Turn, Explained, turn_put}
-use Rattle.hop_delivery.proofs.Names.{TurnsKnowSettings}
+use Rattle.hop_delivery.{proofs.Names.TurnsKnowSettings, specs.Closings.TurnReads.HasRead}
+use Rattle.hop_delivery.specs.Orders.{Runs.settings_of_visit, Turns.visit_with}
 
 -- ---- a member splits its list
 

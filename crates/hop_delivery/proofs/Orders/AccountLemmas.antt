@@ -1,9 +1,7 @@
 -- What producers did, by the moments of an order: the form of the premises from which the law is
 -- proved.
 use Rattle.hop_model.specs.Hop.{chosen_at}
-use Rattle.hop_rule.specs.Boards.{retired}
-use Rattle.hop_rule.specs.Emptied.{WasEmptied}
-use Rattle.hop_rule.specs.PutLaws.{IsDelivery}
+use Rattle.hop_rule.specs.{Boards.retired, Emptied.WasEmptied, PutLaws.IsDelivery}
 use Rattle.hop_delivery.proofs.Names.{◌≡◌, ℕ, suc, ◌%◌, ◌^◌, ◌<◌, ◌≤◌, true, List, Option, Some}
 use Rattle.hop_delivery.proofs.Names.{length, take, drop, slice_get, migrate, entry, of_class}
 use Rattle.hop_delivery.proofs.Names.{current_lane, position, Chosen, Put, since_resize, StepBy}

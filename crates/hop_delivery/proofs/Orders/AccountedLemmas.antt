@@ -1,33 +1,20 @@
 -- An execution that meets the premises gives an account in the moments of the order.
-use Rattle.std.proofs.Common.{length-append}
-use Rattle.std.specs.Prelude.{All}
-use Rattle.std.specs.List.{Contains}
-use Rattle.std.proofs.lemmas.List.{take-append-drop, length-drop}
-use Rattle.std.proofs.lemmas.List.Elements.{All-head, All-tail}
+use Rattle.std.proofs.{Common.length-append, lemmas.List.take-append-drop}
+use Rattle.std.proofs.lemmas.List.{length-drop, Elements.All-head, Elements.All-tail}
 use Rattle.std.proofs.lemmas.Option.{get_or_from_slice_get, slice_get_within}
+use Rattle.std.specs.{List.Contains, Prelude.All}
 use Rattle.hop_model.specs.Hop.{nobody}
 use Rattle.linearization.specs.Orders.{step_by}
-use Rattle.hop_rule.specs.Boards.{gate_steps}
-use Rattle.hop_rule.specs.Emptied.{WasEmptied}
-use Rattle.hop_rule.specs.Gates as gates
-use Rattle.hop_rule.specs.Moments.{Did, moment_of}
+use Rattle.hop_rule.proofs.{Boards.lawful_past, Lists.get-inside, Moments.nth-last}
+use Rattle.hop_rule.proofs.Moments.{nth-old, past-all, past-old, nth-first, nth-member, past-next}
+use Rattle.hop_rule.proofs.{Numbers.rise, Numbers.none_between, Openings.settings_are_the_closers}
+use Rattle.hop_rule.proofs.{Openings.visits_show_settings, OwnMoments.past_own}
+use Rattle.hop_rule.proofs.Parts.{at_moment, from_moment, moments_rise}
+use Rattle.hop_rule.specs.{Boards.gate_steps, Emptied.WasEmptied, Moments.Did, Moments.moment_of}
 use Rattle.hop_rule.specs.declared.step.BoardStep.TheVariants.{Counted, LaneOut, LaneIn, OutCounted}
 use Rattle.hop_rule.specs.declared.step.GateStep.{GateStep}
 use Rattle.hop_rule.specs.declared.step.GateStep.TheVariants.{Turned, Shut, NotShut, Opened, Read}
 use Rattle.hop_rule.specs.declared.step.LaneStep.TheVariants.{Given}
-use Rattle.hop_rule.proofs.Lists.{get-inside}
-use Rattle.hop_rule.proofs.Moments.{nth-last, nth-old, past-all, past-old, nth-first, nth-member}
-use Rattle.hop_rule.proofs.Moments.{past-next}
-use Rattle.hop_rule.proofs.Numbers.{rise, none_between}
-use Rattle.hop_rule.proofs.Openings.{settings_are_the_closers, visits_show_settings}
-use Rattle.hop_rule.proofs.Boards.{lawful_past}
-use Rattle.hop_rule.proofs.OwnMoments.{past_own}
-use Rattle.hop_rule.proofs.Parts.{at_moment, from_moment, moments_rise}
-use Rattle.hop_delivery.specs.Orders.Premises.{MeetsPremises, WasFoundEmpty, FindsEmpty}
-use Rattle.hop_delivery.specs.Orders.Premises.{AllFindEmpty}
-use Rattle.hop_delivery.specs.Orders.Premises.{GoesRight}
-use Rattle.hop_delivery.specs.Orders.Runs as executions
-use Rattle.hop_delivery.specs.Orders.Runs.{word_of}
 use Rattle.hop_delivery.proofs.Names.{◌≡◌, ℕ, zero, suc, ◌+◌, ◌-◌, ◌%◌, ◌^◌, ◌<◌, ◌≤◌, ◌==◌, true}
 use Rattle.hop_delivery.proofs.Names.{List, [], ◌∷◌, ◌++◌, Option, Some, length, take, drop}
 use Rattle.hop_delivery.proofs.Names.{if◌then◌else◌, sym, refl, ap, ◌∙◌, subst, arith, inl, inr}
@@ -41,6 +28,10 @@ use Rattle.hop_delivery.proofs.Names.{Execution, Steering, turns_of, Turn, turn_
 use Rattle.hop_delivery.proofs.Orders.AccountLemmas.{Account, IsAccount, IsRuled, HasVisit}
 use Rattle.hop_delivery.proofs.Orders.AccountLemmas.{WasLoaded, chosen}
 use Rattle.hop_delivery.proofs.Orders.TurnLemmas.{Places, VisitAt, turns_have_places, nth-split}
+use Rattle.hop_delivery.specs.Orders.Premises.{MeetsPremises, WasFoundEmpty, FindsEmpty}
+use Rattle.hop_delivery.specs.Orders.{Premises.AllFindEmpty, Premises.GoesRight, Runs.word_of}
+use Rattle.hop_rule.specs.Gates as gates
+use Rattle.hop_delivery.specs.Orders.Runs as executions
 
 -- the last change of a size, by the sizes up to a choice
 since-same : (f g : ℕ → ℕ) (i : ℕ) → ((j : ℕ) → j ≤ i → f j ≡ g j)

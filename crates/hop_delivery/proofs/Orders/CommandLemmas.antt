@@ -1,26 +1,21 @@
 -- The lanes that have to be empty for the settings of a command are among those that it affects.
+use Rattle.std.proofs.lemmas.{Bool.lt-ltb, List.Elements.All-nil, List.Elements.All-cons}
 use Rattle.std.specs.Prelude.{◌==◌, ◌&&◌, ◌||◌, if◌then◌else◌}
-use Rattle.std.proofs.lemmas.Bool.{lt-ltb}
-use Rattle.std.proofs.lemmas.List.Elements.{All-nil, All-cons}
-use Rattle.steer_base.specs.Commands.{is_affected}
-use Rattle.steer_base.specs.Sets.{with_cpu, without_cpu}
-use Rattle.steer_base.specs.declared.command.Command.{Command}
-use Rattle.steer_base.specs.declared.command.Command.TheVariants.{Mask, Flows, Sock, Offline}
-use Rattle.steer_base.specs.declared.command.Command.TheVariants.{Online, XCpus, XQueues, Reta}
-use Rattle.steer_base.specs.declared.command.Command.TheVariants.{Stand, Expire}
-use Rattle.steer_base.specs.declared.cpu_mask.CpuMask.{CpuMask}
 use Rattle.steer_base.proofs.MasksLemmas.{has-with_cpu, has-without_cpu}
-use Rattle.hop_delivery.specs.Orders.Commands.{SettingChange, made, received_sets, sent_sets}
-use Rattle.hop_delivery.specs.Orders.Commands.{NamesCpu}
-use Rattle.hop_delivery.specs.Orders.Commands.{AreAffected}
-use Rattle.hop_delivery.specs.Orders.Commands.{ReceivedCommandsEmpty, SentCommandsEmpty}
-use Rattle.hop_delivery.specs.Orders.ReceiveSettings.{came_on, empty_for_mask, must_be_empty}
-use Rattle.hop_delivery.specs.Orders.ReceiveSettings.{online}
-use Rattle.hop_delivery.specs.Orders.TransmitSettings.{transmit_steering}
+use Rattle.steer_base.specs.{Commands.is_affected, Sets.with_cpu, Sets.without_cpu}
+use Rattle.steer_base.specs.declared.command.Command.{Command, TheVariants.Mask, TheVariants.Flows}
+use Rattle.steer_base.specs.declared.command.Command.TheVariants.{Sock, Offline, Online, XCpus}
+use Rattle.steer_base.specs.declared.command.Command.TheVariants.{XQueues, Reta, Stand, Expire}
+use Rattle.steer_base.specs.declared.cpu_mask.CpuMask.{CpuMask}
 use Rattle.hop_delivery.proofs.Names.{◌≡◌, ◌⊎◌, inl, inr, ℕ, zero, suc, ◌+◌, ◌<◌, Bool, true, false}
 use Rattle.hop_delivery.proofs.Names.{not, List, [], ◌∷◌, refl, sym, ap, ◌∙◌, nat_lt, list_any}
 use Rattle.hop_delivery.proofs.Names.{range_with_len, cases_Bool, true≢false, eq-eqb, has, Queues}
 use Rattle.hop_delivery.proofs.Names.{online_word, receive_steering}
+use Rattle.hop_delivery.specs.Orders.Commands.{SettingChange, made, received_sets, sent_sets}
+use Rattle.hop_delivery.specs.Orders.Commands.{NamesCpu, AreAffected, ReceivedCommandsEmpty}
+use Rattle.hop_delivery.specs.Orders.{Commands.SentCommandsEmpty, ReceiveSettings.came_on}
+use Rattle.hop_delivery.specs.Orders.ReceiveSettings.{empty_for_mask, must_be_empty, online}
+use Rattle.hop_delivery.specs.Orders.TransmitSettings.{transmit_steering}
 
 -- of one setting
 one : (P : SettingChange → Type 0) (m : SettingChange) → P m → Rattle.std.specs.Prelude.All P

@@ -1,21 +1,15 @@
 -- Delivery in order, from the premises.
-use Rattle.std.proofs.Common.{◌||◌, ◌&&◌}
-use Rattle.std.proofs.lemmas.Bool.{eqb-true, not-true}
+use Rattle.std.proofs.{Common.◌||◌, Common.◌&&◌, lemmas.Bool.eqb-true, lemmas.Bool.not-true}
 use Rattle.steer_base.specs.Orders.{was_dropped, InOrder}
-use Rattle.steer_base.specs.declared.put.DropCause.{DropCause}
-use Rattle.steer_base.specs.declared.put.LaneDrop.{LaneDrop}
+use Rattle.steer_base.specs.declared.put.{DropCause.DropCause, LaneDrop.LaneDrop}
 use Rattle.backlog.specs.Puts.{after_put, put_by}
-use Rattle.hop_rule.specs.Boards.{drops, drops_at, lanes_of, out}
-use Rattle.hop_rule.specs.Deliveries.{Delivery, delivery, delivered_from}
-use Rattle.hop_rule.specs.Lanes as lanes
-use Rattle.hop_rule.specs.PutLaws.{lane_then}
 use Rattle.hop_rule.proofs.Boards.{parts}
 use Rattle.hop_rule.proofs.Deliveries.{Each, nth-each, ids_at, facts, stands, rises, same_lane}
-use Rattle.hop_rule.proofs.Fronts.{front-get, get-pushed}
-use Rattle.hop_rule.proofs.Heads.{passed_since}
-use Rattle.hop_rule.proofs.Members.{each_given, out_given}
-use Rattle.hop_rule.proofs.Puts.{puts_right, was_put, was_dropped as drop_was_put}
-use Rattle.hop_delivery.specs.Orders.DeliveryLaw.{DeliversInOrder}
+use Rattle.hop_rule.proofs.{Fronts.front-get, Fronts.get-pushed, Heads.passed_since}
+use Rattle.hop_rule.proofs.{Members.each_given, Members.out_given, Puts.puts_right, Puts.was_put}
+use Rattle.hop_rule.{proofs.Puts.was_dropped as drop_was_put, specs.Boards.drops}
+use Rattle.hop_rule.specs.{Boards.drops_at, Boards.lanes_of, Boards.out, Deliveries.Delivery}
+use Rattle.hop_rule.specs.{Deliveries.delivery, Deliveries.delivered_from, PutLaws.lane_then}
 use Rattle.hop_delivery.proofs.Names.{◌≡◌, inl, inr, ℕ, zero, suc, ◌-◌, ◌<◌, ◌==◌, Bool, true}
 use Rattle.hop_delivery.proofs.Names.{false, not, List, [], ◌∷◌, ◌++◌, length, sym, refl, ap, ◌∙◌}
 use Rattle.hop_delivery.proofs.Names.{subst, arith, Option, Some, None, slice_get, list_any}
@@ -23,14 +17,14 @@ use Rattle.hop_delivery.proofs.Names.{cases_Bool, true≢false, eq-eqb, lane_dro
 use Rattle.hop_delivery.proofs.Names.{Chosen, Put, StepBy, IsLawful, accepted, nth_step, IsPut}
 use Rattle.hop_delivery.proofs.Names.{FitSizes, BoardSizes, BoardStep, LaneStep, some-is, none-some}
 use Rattle.hop_delivery.proofs.Names.{step-inside, Steering, IsSteering}
-use Rattle.hop_delivery.proofs.Orders.AccountedLemmas.{account, is_account}
 use Rattle.hop_delivery.proofs.Orders.AccountLemmas.{Account, IsAccount, At, chosen, lane_chosen}
+use Rattle.hop_delivery.proofs.Orders.AccountedLemmas.{account, is_account}
 use Rattle.hop_delivery.proofs.Orders.FilterLemmas.{any-of, any-at, any-range, range-any}
-use Rattle.hop_delivery.proofs.Orders.FilterLemmas.{prefix_of_parts}
-use Rattle.hop_delivery.proofs.Orders.PlaceLemmas.{place-get, put_is, once, at_put, put_at, own_put}
-use Rattle.hop_delivery.proofs.Orders.PlaceLemmas.{same_put}
+use Rattle.hop_delivery.proofs.Orders.{FilterLemmas.prefix_of_parts, PlaceLemmas.place-get}
+use Rattle.hop_delivery.proofs.Orders.PlaceLemmas.{put_is, once, at_put, put_at, own_put, same_put}
 use Rattle.hop_delivery.proofs.Orders.PlaceLemmas.{found_at, in_range, rises as places_rise}
-use Rattle.hop_delivery.proofs.Orders.WalkLemmas.{passed}
+use Rattle.hop_delivery.{proofs.Orders.WalkLemmas.passed, specs.Orders.DeliveryLaw.DeliversInOrder}
+use Rattle.hop_rule.specs.Lanes as lanes
 
 module _ (about : BoardSizes) (order : List (StepBy BoardStep)) (fit : FitSizes about)
     (lawful : IsLawful about order) (a : Account) (r : Steering) (steers : IsSteering about.lanes r)

@@ -1,22 +1,17 @@
 -- A setting that ends what a test says finds empty the lanes that it affects: what was put there by
 -- an earlier visit was
 -- retired before a later visit's put.
-use Rattle.hop_rule.specs.Boards.{gates_of}
-use Rattle.hop_rule.specs.declared.step.GateStep.{GateStep}
-use Rattle.hop_rule.specs.declared.step.GateStep.TheVariants.{Shut, Opened}
-use Rattle.hop_rule.proofs.Boards.{gates_past, retired_later}
-use Rattle.hop_rule.proofs.EarlyFirst.{emptied}
-use Rattle.hop_rule.proofs.Gates.{unshut}
-use Rattle.hop_rule.proofs.Moments.{one-step}
-use Rattle.hop_rule.proofs.Visits.{set_between, inside_at, closed_at}
+use Rattle.hop_rule.proofs.{Boards.gates_past, Boards.retired_later, EarlyFirst.emptied}
+use Rattle.hop_rule.proofs.{Gates.unshut, Moments.one-step, Visits.set_between, Visits.inside_at}
+use Rattle.hop_rule.{proofs.Visits.closed_at, specs.Boards.gates_of}
+use Rattle.hop_rule.specs.declared.step.GateStep.{GateStep, TheVariants.Shut, TheVariants.Opened}
 use Rattle.hop_delivery.proofs.Names.{◌≡◌, ◌≢◌, inl, inr, ℕ, ◌<◌, ◌≤◌, Bool, true, false, List, sym}
 use Rattle.hop_delivery.proofs.Names.{ap, subst, arith, cases_eq, cases_lt, StepBy, IsLawful}
 use Rattle.hop_delivery.proofs.Names.{settings, with_setting, past, IsStep, FitSizes, closer}
 use Rattle.hop_delivery.proofs.Names.{BoardSizes, BoardStep, Lane, Gate, Offered, Entered, Set}
 use Rattle.hop_delivery.proofs.Names.{LaneStep, Freed, step_lawful, Steering}
 use Rattle.hop_delivery.proofs.Orders.AccountLemmas.{Account, IsAccount, At, chosen, lane_chosen}
-use Rattle.hop_delivery.proofs.Orders.AccountLemmas.{retired_at}
-use Rattle.hop_delivery.proofs.Orders.AccountLemmas.{settings_at}
+use Rattle.hop_delivery.proofs.Orders.AccountLemmas.{retired_at, settings_at}
 use Rattle.hop_delivery.proofs.Orders.PlaceLemmas.{counts, in_range, put_before, puts_rise}
 
 -- ---- steps of two kinds are two

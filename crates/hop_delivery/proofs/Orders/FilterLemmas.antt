@@ -1,9 +1,7 @@
 -- Order of two lists of which a part is looked at.
-use Rattle.std.proofs.Common.{◌||◌}
-use Rattle.std.specs.Prelude.{filter, map}
+use Rattle.std.{proofs.Common.◌||◌, specs.Prelude.filter, specs.Prelude.map}
 use Rattle.steer_base.specs.Orders.{IsPrefix}
-use Rattle.hop_model.specs.Pairs.{Pairwise}
-use Rattle.hop_model.proofs.Pairs.{prefix_from_pairs}
+use Rattle.hop_model.{proofs.Pairs.prefix_from_pairs, specs.Pairs.Pairwise}
 use Rattle.hop_rule.proofs.Lists.{get-inside}
 use Rattle.hop_delivery.proofs.Names.{◌≡◌, inl, inr, ℕ, zero, suc, ◌+◌, ◌<◌, ◌≤◌, Bool, true, false}
 use Rattle.hop_delivery.proofs.Names.{List, [], ◌∷◌, length, sym, refl, ap, ◌∙◌, arith, Some, take}

@@ -1,12 +1,9 @@
 -- The puts of an account, and where its packets stand.
 use Rattle.std.specs.Option.{option_map}
-use Rattle.steer_base.specs.Entries.{place_in}
-use Rattle.steer_base.proofs.EntriesLemmas.{place_in-le}
-use Rattle.hop_rule.specs.Boards as boards
-use Rattle.hop_rule.specs.PutLaws.{lane_then}
-use Rattle.hop_rule.specs.declared.step.Change.{Change}
+use Rattle.steer_base.{proofs.EntriesLemmas.place_in-le, specs.Entries.place_in}
 use Rattle.hop_rule.proofs.Moments.{past-all, one-step}
 use Rattle.hop_rule.proofs.Puts.{was_put, put_stands, put_counts}
+use Rattle.hop_rule.specs.{PutLaws.lane_then, declared.step.Change.Change}
 use Rattle.hop_delivery.proofs.Names.{◌≡◌, ◌≢◌, inl, inr, ℕ, zero, suc, ◌-◌, ◌<◌, ◌≤◌, List, []}
 use Rattle.hop_delivery.proofs.Names.{◌∷◌, length, sym, refl, ap, ◌∙◌, subst, arith, Option, Some}
 use Rattle.hop_delivery.proofs.Names.{None, slice_get, cases_eq, dite, ℕ_discrete, lane_drop_cause}
@@ -14,6 +11,7 @@ use Rattle.hop_delivery.proofs.Names.{Chosen, Put, StepBy, if_same, if_other, Is
 use Rattle.hop_delivery.proofs.Names.{past, IsPut, BoardSizes, BoardStep, Lane, Offered, LaneStep}
 use Rattle.hop_delivery.proofs.Names.{Freed, step_lawful, some-is, none-some, step-inside, Steering}
 use Rattle.hop_delivery.proofs.Orders.AccountLemmas.{Account, IsAccount, At, chosen, lane_chosen}
+use Rattle.hop_rule.specs.Boards as boards
 
 -- ---- where a packet stands in a list
 

@@ -1,17 +1,16 @@
 -- The settings of a receive board steer as the law of delivery in order asks.
-use Rattle.std.specs.Prelude.{◌==◌, ◌&&◌, ◌||◌}
 use Rattle.std.proofs.lemmas.Bool.{ne_eqb, ltb-true, lt-ltb}
-use Rattle.steer_base.specs.Choices.{rps_choice_of, online_or}
-use Rattle.steer_base.specs.Sets.{those_below, is_empty, at_hash}
-use Rattle.steer_base.specs.declared.cpu_mask.CpuMask.{CpuMask}
-use Rattle.hop_delivery.specs.Orders.ReceiveSettings.{mask, queues, online, rps, came_on}
-use Rattle.hop_delivery.specs.Orders.ReceiveSettings.{empty_for_mask, must_be_empty, GoalsAreOnline}
+use Rattle.std.specs.Prelude.{◌==◌, ◌&&◌, ◌||◌}
+use Rattle.steer_base.specs.{Choices.rps_choice_of, Choices.online_or, Sets.those_below}
+use Rattle.steer_base.specs.{Sets.is_empty, Sets.at_hash, declared.cpu_mask.CpuMask.CpuMask}
 use Rattle.hop_delivery.proofs.Names.{◌≡◌, ◌≢◌, ℕ, zero, suc, ◌+◌, ◌<◌, ◌≤◌, Bool, true, false, not}
 use Rattle.hop_delivery.proofs.Names.{List, [], ◌∷◌, Option, Some, None, length, if◌then◌else◌, sym}
 use Rattle.hop_delivery.proofs.Names.{refl, ap, ◌∙◌, arith, inl, inr, ◌⊎◌, nat_lt, slice_index}
 use Rattle.hop_delivery.proofs.Names.{list_any, range_with_len, cases_Bool, cases_eq, true≢false}
 use Rattle.hop_delivery.proofs.Names.{eq-eqb, has, with_setting, IsSteering, goal_of, Queues}
 use Rattle.hop_delivery.proofs.Names.{online_word, receive_steering}
+use Rattle.hop_delivery.specs.Orders.ReceiveSettings.{mask, queues, online, rps, came_on}
+use Rattle.hop_delivery.specs.Orders.ReceiveSettings.{empty_for_mask, must_be_empty, GoalsAreOnline}
 
 any-here : (test : ℕ → Bool) (xs : List ℕ) (i : ℕ) → i < length xs → test (slice_index xs i) ≡ true
     → list_any test xs ≡ true

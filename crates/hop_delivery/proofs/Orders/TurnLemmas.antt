@@ -1,16 +1,16 @@
 -- The turns that explain a list have places in it.
 use Rattle.std.proofs.Common.{length-append, append_assoc}
-use Rattle.std.specs.List.{filter_map, cons_option}
 use Rattle.std.proofs.lemmas.List.Elements.{filter_map-append}
-use Rattle.hop_rule.specs.Owns.{put_in, puts_of, visit_in, visits_of}
+use Rattle.std.specs.List.{filter_map, cons_option}
 use Rattle.hop_rule.proofs.Moments.{nth-first, nth-last, nth-old}
-use Rattle.hop_delivery.specs.Orders.Turns.{AreQuiet, visit_with}
+use Rattle.hop_rule.specs.Owns.{put_in, puts_of, visit_in, visits_of}
 use Rattle.hop_delivery.proofs.Names.{◌≡◌, ◌⊎◌, inl, inr, ℕ, ◌+◌, ◌==◌, ◌<◌, List, [], ◌∷◌, ◌++◌}
 use Rattle.hop_delivery.proofs.Names.{length, Option, Some, None, if◌then◌else◌, sym, refl, ap, ◌∙◌}
 use Rattle.hop_delivery.proofs.Names.{subst, arith, dite, ℕ_discrete, StepBy, if_same, if_other}
 use Rattle.hop_delivery.proofs.Names.{Put, nth_step, BoardStep, Lane, Gate, Offered, Entered, Left}
 use Rattle.hop_delivery.proofs.Names.{Freed, some-is, none-some, nth-inside, Turn, turn_put}
 use Rattle.hop_delivery.proofs.Names.{Explained}
+use Rattle.hop_delivery.specs.Orders.Turns.{AreQuiet, visit_with}
 
 -- ---- steps of a list in parts
 

@@ -1,19 +1,16 @@
 -- Two choices of one flow of one producer: where they have different lanes, the earlier packet was
 -- retired before the
 -- later one was put.
-use Rattle.std.proofs.Common.{get_or}
-use Rattle.std.specs.Prelude.{◌==◌, slice_index_or}
-use Rattle.std.proofs.lemmas.Bool.{ne_eqb, eqb-true}
+use Rattle.std.proofs.{Common.get_or, lemmas.Bool.ne_eqb, lemmas.Bool.eqb-true}
 use Rattle.std.proofs.lemmas.List.{get_or-drop, get_or-take, length-drop, length-take-le, drop-take}
-use Rattle.steer_base.specs.declared.choice.Choice.{Choice}
-use Rattle.steer_base.specs.declared.choice.Entry.{Entry}
+use Rattle.std.specs.Prelude.{◌==◌, slice_index_or}
 use Rattle.steer_base.proofs.RuleLemmas.{by_entry-class, by_entry-online}
-use Rattle.dev_flow_table.specs.Walks.{IsRuled as IsRuledAt, IsWalk, since_resize}
+use Rattle.steer_base.specs.declared.choice.{Choice.Choice, Entry.Entry}
 use Rattle.dev_flow_table.proofs.WalksLemmas.{since_is_last_change, walk_keeps_order}
+use Rattle.dev_flow_table.specs.Walks.{IsRuled as IsRuledAt, IsWalk, since_resize}
 use Rattle.hop_model.specs.Hop.{nobody}
-use Rattle.hop_rule.specs.Boards.{retired}
-use Rattle.hop_rule.specs.declared.sizes.TheConstants.{MAX_BOARD_ROOM}
 use Rattle.hop_rule.proofs.Boards.{few, lawful_past, retired_later}
+use Rattle.hop_rule.specs.{Boards.retired, declared.sizes.TheConstants.MAX_BOARD_ROOM}
 use Rattle.hop_delivery.proofs.Names.{ℕ, zero, suc, ◌+◌, ◌-◌, ◌^◌, ◌%◌, ◌≤◌, ◌<◌, ◌≡◌, ◌⊎◌, inl}
 use Rattle.hop_delivery.proofs.Names.{inr, Bool, true, false, List, [], ◌∷◌, Option, Some, None}
 use Rattle.hop_delivery.proofs.Names.{length, refl, ap, ◌∙◌, sym, arith, take, drop, subst}
@@ -22,9 +19,8 @@ use Rattle.hop_delivery.proofs.Names.{entry, position, Chosen, StepBy, IsLawful,
 use Rattle.hop_delivery.proofs.Names.{with_setting, past, FitSizes, BoardSizes, BoardStep, Weighed}
 use Rattle.hop_delivery.proofs.Names.{step_lawful, IsSteering, Steering, goal_of}
 use Rattle.hop_delivery.proofs.Orders.AccountLemmas.{Account, IsAccount, IsRuled, At, before}
-use Rattle.hop_delivery.proofs.Orders.AccountLemmas.{chosen, class_at}
-use Rattle.hop_delivery.proofs.Orders.AccountLemmas.{flow_at, lane_chosen, retired_at, settings_at}
-use Rattle.hop_delivery.proofs.Orders.AccountLemmas.{shape_at}
+use Rattle.hop_delivery.proofs.Orders.AccountLemmas.{chosen, class_at, flow_at, lane_chosen}
+use Rattle.hop_delivery.proofs.Orders.AccountLemmas.{retired_at, settings_at, shape_at}
 use Rattle.hop_delivery.proofs.Orders.EmptyingLemmas.{empties}
 use Rattle.hop_delivery.proofs.Orders.PlaceLemmas.{in_range, puts_rise, rises}
 

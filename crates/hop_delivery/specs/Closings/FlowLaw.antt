@@ -2,13 +2,10 @@
 -- leaves.
 use Rattle.std.specs.Prelude.{ℕ, List, map}
 use Rattle.steer_base.specs.Orders.{InOrder}
-use Rattle.history.specs.Lists.{lane_at, list_at}
-use Rattle.history.specs.declared.lane_list.LaneList.{LaneList}
-use Rattle.hop_rule.specs.declared.sizes.BoardSizes.{BoardSizes}
-use Rattle.hop_rule.specs.declared.step.BoardStep.{BoardStep}
+use Rattle.history.specs.{Lists.lane_at, Lists.list_at, declared.lane_list.LaneList.LaneList}
+use Rattle.hop_rule.specs.declared.{sizes.BoardSizes.BoardSizes, step.BoardStep.BoardStep}
 use Rattle.board_api.specs.declared.lists.BoardLists.{BoardLists}
-use Rattle.hop_delivery.specs.Orders.DeliveryLaw.{came_by}
-use Rattle.hop_delivery.specs.Orders.Premises.{MeetsPremises}
+use Rattle.hop_delivery.specs.Orders.{DeliveryLaw.came_by, Premises.MeetsPremises}
 use Rattle.hop_delivery.specs.Orders.Runs.{Execution, Steering, IsSteering}
 
 -- The packets that each middle lane accepted, by the lists that are left.

@@ -1,19 +1,14 @@
 -- Each put is a turn's, no packet is put twice, and so the answer of a put is the packet's place.
 use Rattle.std.specs.Prelude.{◌≡◌, ℕ, ◌<◌, List, Option, Some, length, slice_get, slice_index, All}
 use Rattle.linearization.specs.Orders.{StepBy}
-use Rattle.steer_base.specs.Entries.{place_in}
-use Rattle.steer_base.specs.declared.put.LaneDrop.{LaneDrop}
-use Rattle.steer_base.specs.declared.put.Put.{Put}
+use Rattle.steer_base.specs.{Entries.place_in, declared.put.LaneDrop.LaneDrop, declared.put.Put.Put}
 use Rattle.dev_flow_table.specs.Folds.{IsPutAt}
 use Rattle.history.specs.Lists.{lane_at}
 use Rattle.hop_rule.specs.Moments.{nth_step}
-use Rattle.hop_rule.specs.declared.sizes.BoardSizes.{BoardSizes}
-use Rattle.hop_rule.specs.declared.step.BoardStep.{BoardStep}
-use Rattle.board_api.specs.OwnSteps.{Has, put_step}
-use Rattle.board_api.specs.declared.lists.BoardLists.{BoardLists}
-use Rattle.hop_delivery.specs.Orders.Runs.{Execution, turns_of}
-use Rattle.hop_delivery.specs.Orders.Turns.{Turn, Explained}
+use Rattle.hop_rule.specs.declared.{sizes.BoardSizes.BoardSizes, step.BoardStep.BoardStep}
+use Rattle.board_api.specs.{OwnSteps.Has, OwnSteps.put_step, declared.lists.BoardLists.BoardLists}
 use Rattle.hop_delivery.specs.Closings.FlowLaw.{accepted_left}
+use Rattle.hop_delivery.specs.Orders.{Runs.Execution, Runs.turns_of, Turns.Turn, Turns.Explained}
 
 -- No packet is put twice: two own steps that put it are one step of one seat.
 abbrev pub PutsAreOnce : (ℕ → List BoardStep) → Type 0

@@ -1,27 +1,20 @@
 -- The settings that a turn knows, and choices by what it knows.
-use Rattle.std.specs.Prelude.{◌≡◌, ◌⊎◌, ℕ, ◌*◌, ◌%◌, ◌^◌, ◌<◌, ◌≤◌, true, List, Option, Some, take}
-use Rattle.std.specs.Prelude.{drop}
-use Rattle.std.specs.List.{Contains}
-use Rattle.steer_base.specs.Choices.{migrate}
-use Rattle.steer_base.specs.Entries.{entry, of_class, current_lane}
+use Rattle.std.specs.{List.Contains, Prelude.◌≡◌}
+use Rattle.std.specs.Prelude.{◌⊎◌, ℕ, ◌*◌, ◌%◌, ◌^◌, ◌<◌, ◌≤◌, true, List, Option, Some, take, drop}
+use Rattle.steer_base.specs.{Choices.migrate, Entries.entry, Entries.of_class, Entries.current_lane}
 use Rattle.steer_base.specs.declared.choice.Chosen.{Chosen}
 use Rattle.dev_flow_table.specs.Walks.{since_resize}
-use Rattle.hop_rule.specs.Moments.{nth_step}
-use Rattle.hop_rule.specs.declared.sizes.BoardSizes.{BoardSizes}
-use Rattle.hop_rule.specs.declared.step.BoardStep.{BoardStep}
-use Rattle.hop_rule.specs.declared.step.BoardStep.TheVariants.{Gate, Weighed}
+use Rattle.hop_rule.specs.{Moments.nth_step, declared.sizes.BoardSizes.BoardSizes}
+use Rattle.hop_rule.specs.declared.step.BoardStep.{BoardStep, TheVariants.Gate, TheVariants.Weighed}
 use Rattle.hop_rule.specs.declared.step.GateStep.TheVariants.{Read}
-use Rattle.board_api.specs.OwnSteps.{ReadsIn}
-use Rattle.board_api.specs.StepWords.{openings_in}
+use Rattle.board_api.specs.{OwnSteps.ReadsIn, StepWords.openings_in}
 use Rattle.board_api.specs.declared.lists.BoardLists.{BoardLists}
-use Rattle.hop_delivery.specs.Orders.ReceiveSettings.{Queues, queues, receive_steering}
-use Rattle.hop_delivery.specs.Orders.ReceiveSettings.{flows_word, mask_word, online_word}
-use Rattle.hop_delivery.specs.Orders.Runs.{Execution, Steering, IsByRule, goal_of}
-use Rattle.hop_delivery.specs.Orders.Runs.{settings_of_visit}
-use Rattle.hop_delivery.specs.Orders.Runs.{turns_of}
-use Rattle.hop_delivery.specs.Orders.TransmitSettings.{pick_by}
-use Rattle.hop_delivery.specs.Orders.Turns.{Turn, Explained}
 use Rattle.hop_delivery.specs.Closings.FlowLaw.{accepted_left}
+use Rattle.hop_delivery.specs.Orders.ReceiveSettings.{Queues, queues, receive_steering, flows_word}
+use Rattle.hop_delivery.specs.Orders.ReceiveSettings.{mask_word, online_word}
+use Rattle.hop_delivery.specs.Orders.Runs.{Execution, Steering, IsByRule, goal_of}
+use Rattle.hop_delivery.specs.Orders.Runs.{settings_of_visit, turns_of}
+use Rattle.hop_delivery.specs.Orders.{TransmitSettings.pick_by, Turns.Turn, Turns.Explained}
 
 -- The turn read this value of a setting word, between its entry and its put.
 abbrev pub HasRead : Turn → ℕ → ℕ → Type 0

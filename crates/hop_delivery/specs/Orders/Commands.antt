@@ -1,16 +1,13 @@
 -- The settings that a command makes on a board, and the lanes that have to be empty for them.
 use Rattle.std.specs.Prelude.{◌≡◌, ℕ, ◌+◌, ◌*◌, ◌/◌, ◌^◌, ◌<◌, true, List, [], ◌∷◌, All}
-use Rattle.steer_base.specs.Commands.{is_affected}
-use Rattle.steer_base.specs.Counters.{rounded_up}
+use Rattle.steer_base.specs.{Commands.is_affected, Counters.rounded_up}
 use Rattle.steer_base.specs.Sets.{with_cpu, without_cpu}
-use Rattle.steer_base.specs.declared.command.Command.{Command}
-use Rattle.steer_base.specs.declared.command.Command.TheVariants.{Mask, Flows, Sock, Offline}
-use Rattle.steer_base.specs.declared.command.Command.TheVariants.{Online, XCpus, XQueues, Reta}
-use Rattle.steer_base.specs.declared.command.Command.TheVariants.{Stand, Expire}
+use Rattle.steer_base.specs.declared.command.Command.{Command, TheVariants.Mask, TheVariants.Flows}
+use Rattle.steer_base.specs.declared.command.Command.TheVariants.{Sock, Offline, Online, XCpus}
+use Rattle.steer_base.specs.declared.command.Command.TheVariants.{XQueues, Reta, Stand, Expire}
 use Rattle.hop_delivery.specs.Orders.ReceiveSettings.{Queues, flows_word, mask_word, online}
 use Rattle.hop_delivery.specs.Orders.ReceiveSettings.{online_word, receive_steering, socket_word}
-use Rattle.hop_delivery.specs.Orders.Runs.{Steering}
-use Rattle.hop_delivery.specs.Orders.TransmitSettings.{transmit_steering}
+use Rattle.hop_delivery.specs.Orders.{Runs.Steering, TransmitSettings.transmit_steering}
 
 -- A change of a setting: its word and its new value.
 pub record SettingChange : Type 0 where

@@ -1,11 +1,10 @@
 -- How the settings of a receive board steer: the masks of the queues, their flow counts with their
 -- generations, the socket size and the online mask (kernel scaling chapter, sections RPS and RFS).
+use Rattle.std.specs.List.{list_any, range_with_len}
 use Rattle.std.specs.Prelude.{◌≡◌, ℕ, ◌+◌, ◌*◌, ◌%◌, ◌^◌, ◌<◌, ◌==◌, ◌&&◌, ◌||◌, Bool, true, not}
 use Rattle.std.specs.Prelude.{List, Option, Some, nat_lt, length, slice_index, if◌then◌else◌}
-use Rattle.std.specs.List.{list_any, range_with_len}
 use Rattle.steer_base.specs.Choices.{class_of, rps_choice_of, desired_cpu}
-use Rattle.steer_base.specs.Sets.{has}
-use Rattle.steer_base.specs.declared.cpu_mask.CpuMask.{CpuMask}
+use Rattle.steer_base.specs.{Sets.has, declared.cpu_mask.CpuMask.CpuMask}
 use Rattle.hop_delivery.specs.Orders.Runs.{Steering, goal_of}
 
 -- The home processor of each receive queue, the flow of each packet, and the hash and the

@@ -1,21 +1,14 @@
 -- What producers did on a board, and how settings steer their packets (kernel scaling chapter,
 -- sections RPS, RFS and XPS).
-use Rattle.std.specs.Prelude.{◌≡◌, ◌≢◌, ℕ, ◌<◌, ◌/◌, ◌%◌, ◌^◌, Bool, true, false, List, Option}
-use Rattle.std.specs.Prelude.{Some}
-use Rattle.std.specs.Prelude.{None, take, drop}
-use Rattle.std.specs.List.{Contains}
-use Rattle.steer_base.specs.Choices.{migrate}
-use Rattle.steer_base.specs.Entries.{entry, of_class, current_lane}
+use Rattle.std.specs.{List.Contains, Prelude.◌≡◌, Prelude.◌≢◌, Prelude.ℕ, Prelude.◌<◌, Prelude.◌/◌}
+use Rattle.std.specs.Prelude.{◌%◌, ◌^◌, Bool, true, false, List, Option, Some, None, take, drop}
+use Rattle.steer_base.specs.{Choices.migrate, Entries.entry, Entries.of_class, Entries.current_lane}
 use Rattle.steer_base.specs.declared.choice.Chosen.{Chosen}
 use Rattle.linearization.specs.Orders.{StepBy, steps_of}
 use Rattle.dev_flow_table.specs.Walks.{since_resize}
-use Rattle.hop_rule.specs.Boards.{gate_steps}
-use Rattle.hop_rule.specs.Gates.{opened, own_settings, with_setting}
-use Rattle.hop_rule.specs.Moments.{nth_step}
-use Rattle.hop_rule.specs.Sizes.{closer}
-use Rattle.hop_rule.specs.declared.sizes.BoardSizes.{BoardSizes}
-use Rattle.hop_rule.specs.declared.step.BoardStep.{BoardStep}
-use Rattle.hop_rule.specs.declared.step.BoardStep.TheVariants.{Weighed}
+use Rattle.hop_rule.specs.{Boards.gate_steps, Gates.opened, Gates.own_settings, Gates.with_setting}
+use Rattle.hop_rule.specs.{Moments.nth_step, Sizes.closer, declared.sizes.BoardSizes.BoardSizes}
+use Rattle.hop_rule.specs.declared.step.BoardStep.{BoardStep, TheVariants.Weighed}
 use Rattle.hop_delivery.specs.Orders.Turns.{Turn}
 
 -- What producers did: for each producer the packets that arrived and the choices, the oldest first,

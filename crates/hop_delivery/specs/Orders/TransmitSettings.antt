@@ -1,12 +1,10 @@
 -- How a transmit board steers: each reply is to go to the queue that was picked for it (kernel
 -- scaling chapter, section XPS). The producers are the applications, the lanes are the transmit
 -- queues, and the only out lane is the port. Each flow is a class, and nothing goes offline.
-use Rattle.std.specs.Prelude.{ℕ, ◌+◌, true, false, Option, Some}
 use Rattle.std.specs.Option.{unwrap_or}
-use Rattle.steer_base.specs.Sends.{pick_of}
-use Rattle.steer_base.specs.Sets.{has, has_queue}
-use Rattle.hop_delivery.specs.Orders.ReceiveSettings.{mask}
-use Rattle.hop_delivery.specs.Orders.Runs.{Steering}
+use Rattle.std.specs.Prelude.{ℕ, ◌+◌, true, false, Option, Some}
+use Rattle.steer_base.specs.{Sends.pick_of, Sets.has, Sets.has_queue}
+use Rattle.hop_delivery.specs.Orders.{ReceiveSettings.mask, Runs.Steering}
 
 -- How a transmit board steers, by the flow of each packet: what is wanted of a reply is the queue
 -- that was picked.

@@ -1,8 +1,8 @@
 use Rattle.board_api.proofs.OwnPuts.{accepted_were_put, drops_were_put, puts_stand}
-use Rattle.hop_delivery.specs.Closings.PutPlaces.{AnswersArePlaces, PacketsStand}
-use Rattle.hop_delivery.proofs.Names.{own_of, lists_of, at_closings}
 use Rattle.hop_delivery.proofs.Closings.PutPlaceLemmas.{answers_are_places, packets_stand}
 use Rattle.hop_delivery.proofs.Closings.PutPlaceLemmas.{turns_put_once}
+use Rattle.hop_delivery.proofs.Names.{own_of, lists_of, at_closings}
+use Rattle.hop_delivery.specs.Closings.PutPlaces.{AnswersArePlaces, PacketsStand}
 use Rattle.hop_delivery.proofs.closing_laws.packets_are_put_once.Goals as goal
 
 pub returns-clause-once : goal.returns-clause-once

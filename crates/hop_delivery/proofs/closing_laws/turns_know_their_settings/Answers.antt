@@ -1,8 +1,8 @@
 use Rattle.board_api.proofs.OwnVisits.{numbered_reads_are_settings, reads_are_settings}
-use Rattle.hop_delivery.specs.Closings.TurnReads.{PicksAreByReads, RulesAreByReads}
-use Rattle.hop_delivery.proofs.Names.{at_closings, own_of, lists_of, TurnsKnowSettings}
-use Rattle.hop_delivery.proofs.Closings.TurnReadLemmas.{turns_know}
 use Rattle.hop_delivery.proofs.Closings.RuleLemmas.{picks_by_reads, rules_by_reads}
+use Rattle.hop_delivery.proofs.Closings.TurnReadLemmas.{turns_know}
+use Rattle.hop_delivery.proofs.Names.{at_closings, own_of, lists_of, TurnsKnowSettings}
+use Rattle.hop_delivery.specs.Closings.TurnReads.{PicksAreByReads, RulesAreByReads}
 use Rattle.hop_delivery.proofs.closing_laws.turns_know_their_settings.Goals as goal
 
 pub returns-clause-knows : goal.returns-clause-knows
