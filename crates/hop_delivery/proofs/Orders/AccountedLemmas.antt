@@ -72,8 +72,7 @@ module _ {A : Type 0} where
       → nth_step xs k ≡ Some x
   nth-next xs k x l is =
       let n = length-past xs k (omega arith) in let m = length-past xs (suc k) (omega arith) in
-      nth-past xs (suc k) k (omega arith)
-      ∙ (ap (λ zs. nth_step zs k) is
+      nth-past xs (suc k) k (omega arith) ∙ (ap (λ zs. nth_step zs k) is
       ∙ (ap (nth_step (x ∷ past k xs)) (sym n) ∙ nth-last x (past k xs)))
 
 -- the numbers of the first part of a list come after those of the second
@@ -96,8 +95,7 @@ opened_has (d ∷ ds) j at = elim (nth-first d ds j (Gate Opened) at) [
   | inl old ↦ (let more = opened_has ds j old in by_step d more)
   | inr new ↦ subst (λ (x : BoardStep). 0 < gates.openings (gate_steps (x ∷ ds))) (sym new.0)
       (omega arith)
-]
-  where
+] where
     by_gate : (s : GateStep) → 0 < gates.openings (gate_steps ds) → 0 < gates.openings_after s
         (gates.openings (gate_steps ds))
     by_gate Opened more = omega arith
@@ -152,8 +150,7 @@ module _ (about : BoardSizes) (order : List (StepBy BoardStep)) (k l w v : ℕ)
   of_own : (j : ℕ) (d : BoardStep) → nth_step before j ≡ Some d → (j < k) × Did order C j d
   of_own j d at =
       let inside = nth-inside before j d at in let m = in_list in let n = length-past closers_own k
-      (omega arith) in
-      (omega arith, nth-past closers_own k j inside ∙ at)
+      (omega arith) in (omega arith, nth-past closers_own k j inside ∙ at)
 
   abbrev since_shut : List BoardStep
   since_shut = Gate (Shut f.word) ∷ f.older
@@ -186,8 +183,7 @@ module _ (about : BoardSizes) (order : List (StepBy BoardStep)) (k l w v : ℕ)
   unfolding weighed_at
   weighed_did =
       let n = sizes in
-      of_own weighed_at (Weighed l f.head)
-      (in_since (length f.first) (Weighed l f.head)
+      of_own weighed_at (Weighed l f.head) (in_since (length f.first) (Weighed l f.head)
       (ap (λ zs. nth_step zs (length f.first)) f.loads
       ∙ (nth-old f.after (Counted l f.tail ∷ from_weighed) (length f.first) (omega arith)
       ∙ (nth-old (Counted l f.tail ∷ []) from_weighed (length f.first) (omega arith)
@@ -214,16 +210,12 @@ module _ (about : BoardSizes) (order : List (StepBy BoardStep)) (k l w v : ℕ)
       elim (nth-split f.since since_shut j (Gate Opened) here) [
         | inl old ↦ (let i = nth-inside since_shut j (Gate Opened) old in absurd (omega arith))
         | inr new ↦ (let some = opened_has f.since new.0 new.1 in let none = f.stays in
-            absurd (omega arith))
-      ]
+            absurd (omega arith)) ]
 
   was_emptied : WasEmptied about order (moment_of C order k) l
   was_emptied = record {
-    shut = moment_of C order (length f.older);
-    weighed = moment_of C order weighed_at;
-    counted = moment_of C order counted_at;
-    word = f.word;
-    head = f.head;
+    shut = moment_of C order (length f.older); weighed = moment_of C order weighed_at;
+    counted = moment_of C order counted_at; word = f.word; head = f.head;
     tail = f.tail;
     after_shut = rise about order C (length f.older) weighed_at (Weighed l f.head) later.0
         weighed_did.1;
@@ -264,15 +256,9 @@ module _ (about : BoardSizes) (order : List (StepBy BoardStep)) (t : Execution) 
   put_at p i = moment_of (t.seat p) order ((places_of (t.seat p)).put (turn_at p i))
 
   abbrev pub account : Account
-  account =
-      record {
-        arrivals = t.arrivals;
-        choices = t.choices;
-        placed = λ p. length (turns_of t p);
-        seat = t.seat;
-        entered = entered_at;
-        put = put_at;
-      }
+  account = record {
+        arrivals = t.arrivals; choices = t.choices; placed = λ p. length (turns_of t p);
+        seat = t.seat; entered = entered_at; put = put_at; }
 
   module _ (p i : ℕ) (u : Turn) (at : nth_step (turns_of t p) i ≡ Some u) where
     abbrev q : ℕ
@@ -306,10 +292,7 @@ module _ (about : BoardSizes) (order : List (StepBy BoardStep)) (t : Execution) 
     has_visit : HasVisit about order account r p i
     unfolding entered_at put_at
     has_visit = record {
-      word = u.word;
-      enters = enters_at;
-      hash = u.hash;
-      answer = u.answer;
+      word = u.word; enters = enters_at; hash = u.hash; answer = u.answer;
       puts = subst (λ (c : Chosen). IsPut about order (put_at p i) q c.choice.lane c.id u.hash
           u.answer) (sym chosen_is) puts_at;
       after = rise about order q (places.entered (turn_at p i)) (places.put (turn_at p i))
@@ -320,8 +303,7 @@ module _ (about : BoardSizes) (order : List (StepBy BoardStep)) (t : Execution) 
     }
 
     settings_is : settings about (past (entered_at p i) order) ≡ executions.settings_at about own
-        acc t
-        r p i
+        acc t r p i
     settings_is = visits_show_settings about order fit lawful (entered_at p i) q u.word enters_at
         ∙ ap (λ o. executions.settings_of_visit about own (word_of o)) (sym at)
 
@@ -329,16 +311,12 @@ module _ (about : BoardSizes) (order : List (StepBy BoardStep)) (t : Execution) 
     was_loaded : (l w number : ℕ) → Contains u.early (Weighed l w) → w % 2 ^ 32 ≡ number
         → WasLoaded about order account r p i l number
     unfolding put_at
-    was_loaded l w number has shows =
-        let e = visit.early (length u.early - suc has.0) (Weighed l w)
+    was_loaded l w number has shows = let e = visit.early (length u.early - suc has.0) (Weighed l w)
         (nth-member u.early has.0 (Weighed l w) has.1 ∙ ap Some has.2) in
         record {
-          moment = moment_of q order e.0;
-          word = w;
+          moment = moment_of q order e.0; word = w;
           before = rise about order q e.0 (places.put (turn_at p i)) (turn_put u) e.2 visit.puts;
-          weighs = at_moment q order e.0 (Weighed l w) e.3;
-          shows = shows;
-        }
+          weighs = at_moment q order e.0 (Weighed l w) e.3; shows = shows; }
 
   turn_of : (p i : ℕ) → i < length (turns_of t p) → (u : Turn)
       × (nth_step (turns_of t p) i ≡ Some u)
@@ -355,13 +333,10 @@ module _ (about : BoardSizes) (order : List (StepBy BoardStep)) (t : Execution) 
       (λ j. r.shape (settings about (past (entered_at p j) order)) p) i
       (λ j le. let v = turn_of p j (omega arith) in ap (λ z. r.shape z p)
       (sym (settings_is p j v.0 v.1))) in
-      let c = chosen_is p i u.0 u.1 in
-      by_paths u.0 u.1 b (sym s) since (sym c)
-    where
+      let c = chosen_is p i u.0 u.1 in by_paths u.0 u.1 b (sym s) since (sym c) where
       by_paths : (u : Turn) → nth_step (turns_of t p) i ≡ Some u
           → (b : executions.IsByRule about own acc t r p i u) → executions.settings_at about own acc
-          t r p
-          i ≡ settings about (past (entered_at p i) order)
+          t r p i ≡ settings about (past (entered_at p i) order)
           → since_resize (executions.shape_at about own acc t r p) i ≡ since_resize
           (λ j. r.shape (settings about (past (entered_at p j) order)) p) i
           → u.chosen ≡ chosen account p i → IsRuled about order account r p i
@@ -380,8 +355,7 @@ module _ (about : BoardSizes) (order : List (StepBy BoardStep)) (t : Execution) 
             Some
             l = ap (λ m. current_lane (of_class k (drop m (take i (t.choices p))))) n ∙ lane in
             let w = b.loaded k l same_class same_lane (ap (λ (z : Chosen). z.choice.head) c ∙ head)
-            in
-            was_loaded p i u at l w.0 b.head w.1 w.2);
+            in was_loaded p i u at l w.0 b.head w.1 w.2);
         goal_online = subst (λ (z : (ℕ → ℕ) × Chosen). r.online z.0
             (executions.goal_of r z.0 p (r.flow z.1.id) (r.class (r.shape z.0 p) (r.flow z.1.id))
             z.1.choice.want) ≡ true) (λ j. (s j, c j)) b.goal_online;
@@ -402,14 +376,11 @@ module _ (about : BoardSizes) (order : List (StepBy BoardStep)) (t : Execution) 
       let inside : i.0 < length (turns_of t p) =
       subst (λ (z : ℕ). i.0 < length (steps_of p (t.turns z))) (sym seat)
       (nth-inside (steps_of p (t.turns q)) i.0 e.0.step i.1) in (
-        p,
-        i.0,
-        inside,
+        p, i.0, inside,
         (λ j. moment_of (seat j) order
             ((places_of (seat j)).put (moment_of p (t.turns (seat j)) i.0)))
             ∙ (ap (λ z. moment_of q order ((places_of q).put z)) i.2
-            ∙ (ap (moment_of q order) a.2 ∙ f.2)),
-      )
+            ∙ (ap (moment_of q order) a.2 ∙ f.2)))
 
   in_order_are : (p i : ℕ) → suc i < length (turns_of t p) → put_at p i < entered_at p (suc i)
   unfolding put_at entered_at
@@ -444,20 +415,15 @@ module _ (about : BoardSizes) (order : List (StepBy BoardStep)) (t : Execution) 
         good.once p q i j g.0 g.1 g.2);
     arrived = λ p i l. (let u = turn_of p i l in good.arrived p i u.0 u.1
         ∙ ap (λ (z : Chosen). Some z.id) (sym (chosen_is p i u.0 u.1)));
-    few = few_are;
-    visits = λ p i l. (let u = turn_of p i l in has_visit p i u.0 u.1);
-    in_order = in_order_are;
-    all_puts = all_puts_are;
+    few = few_are; visits = λ p i l. (let u = turn_of p i l in has_visit p i u.0 u.1);
+    in_order = in_order_are; all_puts = all_puts_are;
     given = λ n q o from id place is.
         (let f = from_moment q order n (Lane (Given o from id place)) is in nth-all (GoesRight r)
         (own q) f.0 (Lane (Given o from id place)) (good.given q) f.1);
-    by_rule = ruled;
-    emptied = emptied_are;
-  }
-    where
+    by_rule = ruled; emptied = emptied_are;
+  } where
       few_are : (p : ℕ) → length (turns_of t p) ≤ length (t.choices p)
-      few_are p = by_count (length (turns_of t p)) refl
-        where
+      few_are p = by_count (length (turns_of t p)) refl where
           by_count : (n : ℕ) → length (turns_of t p) ≡ n → n ≤ length (t.choices p)
           by_count zero e = omega arith
           by_count (suc n) e = let u = turn_of p n (omega arith) in let l = slice_get_within

@@ -50,13 +50,11 @@ module _ (q : Queues) (s : ℕ → ℕ) (cpu l : ℕ) (small : cpu < 32) where
     | inl gone ↦ (
         let g = both (has old l) (not (has (without_cpu old cpu) l)) gone in
         let out : (has old l && not (cpu == l)) ≡ false = sym (has-without_cpu old cpu l small)
-        ∙ neither (has (without_cpu old cpu) l) g.1 in
-        by_test (has old l) (cpu == l) refl g.0 out)
+        ∙ neither (has (without_cpu old cpu) l) g.1 in by_test (has old l) (cpu == l) refl g.0 out)
     | inr came ↦ absurd (true≢false
         (sym (both (list_any (λ home. home == l) q.homes) (came_on q old (without_cpu old cpu))
         came).1 ∙ none_of _ 0 32 none_came))
-  ]
-    where
+  ] where
       by_test : (a b : Bool) → (cpu == l) ≡ b → a ≡ true → (a && not b) ≡ false → (l == cpu) ≡ true
       by_test true true is on out = eq-eqb l cpu
           (sym (Rattle.std.proofs.lemmas.Bool.eqb-true cpu l is))
@@ -81,8 +79,7 @@ module _ (q : Queues) (s : ℕ → ℕ) (cpu l : ℕ) (small : cpu < 32) where
         ∙ neither (has (with_cpu old cpu) l) g.1))))
     | inr came ↦ (both (list_any (λ home. home == l) q.homes) (came_on q old (with_cpu old cpu))
         came).0
-  ]
-    where
+  ] where
       stays_on : (a b : Bool) → (a || b) ≡ false → a ≡ false
       stays_on true b e = absurd (true≢false e)
       stays_on false b e = refl

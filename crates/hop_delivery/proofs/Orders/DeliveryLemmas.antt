@@ -107,13 +107,9 @@ module _ (about : BoardSizes) (order : List (StepBy BoardStep)) (fit : FitSizes 
       let found : found_at about order lawful a r good u.producer u.index ≡ g.index =
       (λ j. length (lane_then about order (u.moment j) (u.same_lane j)).accepted) ∙ w.found in
       let whole : Delivered u.producer k x = record {
-        index = u.index;
-        placed = u.placed;
-        same = u.same_id;
-        count = g.index;
+        index = u.index; placed = u.placed; same = u.same_id; count = g.index;
         at = subst (λ (z : ℕ). At about order a r u.producer u.index (suc z)) found there;
-        nth_is = ap (λ z. nth_step (delivered_from z ls) g.index) u.same_lane ∙ g.at;
-      } in
+        nth_is = ap (λ z. nth_step (delivered_from z ls) g.index) u.same_lane ∙ g.at; } in
       subst (λ (q : ℕ). Delivered q k x) (sym mine.0) whole
 
   -- ---- dropped packets
@@ -153,20 +149,15 @@ module _ (about : BoardSizes) (order : List (StepBy BoardStep)) (fit : FitSizes 
       let stands = (puts_right about order lawful n q l id hash answer is).stands in
       let x = lane_then about order n l in
       let d : LaneDrop = record {
-        id = id;
-        accepted = length x.accepted;
-        pulled = x.pulled;
-        cause =
-            cause;
-      } in
+        id = id; accepted = length x.accepted; pulled = x.pulled;
+        cause = cause; } in
       let here : (after_put x id hash).drops ≡ x.drops ++ d ∷ [] =
       ap (λ z. (put_by z x id (Rattle.steer_base.specs.Drops.bucket_of hash)).drops) caused in
       let at : slice_get (after_put x id hash).drops (length x.drops) ≡ Some d =
       ap (λ z. slice_get z (length x.drops)) here ∙ get-pushed x.drops d in
       any-member (drops_at about order l) (length x.drops) d
       (front-get (after_put x id hash).drops (drops_at about order l) (length x.drops) d
-      stands.drops at) (eq-eqb id id refl)
-    where
+      stands.drops at) (eq-eqb id id refl) where
       or_true : (b : Bool) → (b || true) ≡ true
       or_true true = refl
       or_true false = refl
@@ -180,10 +171,8 @@ module _ (about : BoardSizes) (order : List (StepBy BoardStep)) (fit : FitSizes 
 
   -- a put packet that did not fall was accepted
   accepted_or : (i : ℕ) → i < a.placed p → fell (c i).id ≡ false → (n : ℕ) × IsAt i (suc n)
-  accepted_or i ip kept_ =
-      let v = good.visits p i ip in by_cause v.hash v.answer v.puts
-      (lane_drop_cause (lane_then about order (a.put p i) (lane_chosen a p i)) v.hash) refl
-    where
+  accepted_or i ip kept_ = let v = good.visits p i ip in by_cause v.hash v.answer v.puts
+      (lane_drop_cause (lane_then about order (a.put p i) (lane_chosen a p i)) v.hash) refl where
       by_cause : (hash : Option ℕ) (answer : Put) → IsPut about order (a.put p i) (a.seat p)
           (lane_chosen a p i) (c i).id hash answer → (cause : Option DropCause) → lane_drop_cause
           (lane_then about order (a.put p i) (lane_chosen a p i)) hash ≡ cause → (n : ℕ)
@@ -215,8 +204,7 @@ module _ (about : BoardSizes) (order : List (StepBy BoardStep)) (fit : FitSizes 
   in_out_lane i n k g at flow there low =
       let l : ℕ = lane_chosen a p i in
       let id = ids_at about (delivered_from l ls) (accepted about order l)
-      (facts about ls lawful_lanes l).2
-      n g there in
+      (facts about ls lawful_lanes l).2 n g there in
       let mine : slice_get (accepted about order l) n ≡ Some (c i).id =
       (let k : n ≡ suc n - 1 = omega arith in ap (slice_get (accepted about order l)) k
       ∙ place-get (c i).id (suc n) (accepted about order l) at) in
@@ -224,23 +212,18 @@ module _ (about : BoardSizes) (order : List (StepBy BoardStep)) (fit : FitSizes 
       let to_is : g.to ≡ r.to f = nth-each about (λ (d : Delivery). d.to ≡ r.to (r.flow d.id))
       (delivered_from l ls) (given_to l) n g there ∙ ap r.to (ap r.flow id_is ∙ flow) in
       let lower = low to_is in
-      let s = nth-each about
-      (λ (d : Delivery). (0 < d.place)
+      let s = nth-each about (λ (d : Delivery). (0 < d.place)
       × (slice_get (lanes.out d.to ls) (d.place - 1) ≡ Some d.id)) (delivered_from l ls)
       (stands about ls lawful_lanes l) n g there in
       let pos = s.0 in (
-        g.place - 1,
-        omega arith,
-        ap (λ z. slice_get (lanes.out z ls) (g.place - 1)) (sym to_is)
-            ∙ (s.1 ∙ ap Some id_is),
-      )
+        g.place - 1, omega arith,
+        ap (λ z. slice_get (lanes.out z ls) (g.place - 1)) (sym to_is) ∙ (s.1 ∙ ap Some id_is))
 
   -- an earlier packet of the flow that was accepted stands in the out lane before a later one
   pair : (i j n m k : ℕ) → i < j → j < a.placed p → IsAt i (suc n) → IsAt j (suc m)
       → r.flow (c i).id ≡ f → r.flow (c j).id ≡ f
       → nth_step (delivered_from (lane_chosen a p j) ls) m ≡ Some (delivery (r.to f) (c j).id
-      (suc k))
-      → (l : ℕ) × (l < k) × (slice_get (out about order (r.to f)) l ≡ Some (c i).id)
+      (suc k)) → (l : ℕ) × (l < k) × (slice_get (out about order (r.to f)) l ≡ Some (c i).id)
   pair i j n m k less jp at at' flow flow' there =
       let g : Delivery = delivery (r.to f) (c j).id (suc k) in
       elim (passed about order fit lawful a r steers good p i j (suc n) less jp at
@@ -258,15 +241,13 @@ module _ (about : BoardSizes) (order : List (StepBy BoardStep)) (fit : FitSizes 
             let s = same_lane about (delivered_from (lane_chosen a p j) ls)
             (rises about ls lawful_lanes (lane_chosen a p j)) n m g (omega arith) there in
             in_out_lane i n k s.0 at flow (ap (λ z. nth_step (delivered_from z ls) n) same
-            ∙ s.1) s.2)
-      ]
+            ∙ s.1) s.2) ]
 
   -- ---- the law
 
   came-of : (i x : ℕ) → slice_get arrived i ≡ Some x → r.flow x ≡ f → came x ≡ true
   came-of i x at flow = let e : list_any (λ y. y == x) arrived ≡ true = any arrived i at in
-      rw (e, eq-eqb (r.flow x) f flow) refl
-    where
+      rw (e, eq-eqb (r.flow x) f flow) refl where
       or_true : (b : Bool) → (b || true) ≡ true
       or_true true = refl
       or_true false = refl
@@ -278,8 +259,7 @@ module _ (about : BoardSizes) (order : List (StepBy BoardStep)) (fit : FitSizes 
 
   pub in_order : InOrder came arrived (drops about order) (out about order (r.to f))
   in_order = prefix_of_parts came kept arrived (out about order (r.to f))
-      (λ i j x at at'. (good.once p p i j x at at').1)
-      (λ k l x came_ at at'.
+      (λ i j x at at'. (good.once p p i j x at at').1) (λ k l x came_ at at'.
       let u = delivered k x at came_ in let v = delivered l x at' came_ in
       let same = (once about order lawful a r good p p u.index v.index u.placed v.placed
       (u.same ∙ sym v.same)).1 in
@@ -288,15 +268,12 @@ module _ (about : BoardSizes) (order : List (StepBy BoardStep)) (fit : FitSizes 
       let n : u.count ≡ v.count = omega arith in
       let d : delivery (r.to f) x (suc k) ≡ delivery (r.to f) x (suc l) = some-is _ _
       (sym u.nth_is ∙ ((λ j. nth_step (delivered_from (lane_chosen a p (same j)) ls) (n j))
-      ∙ v.nth_is))
-      in
-      let pl : suc k ≡ suc l = ap (λ (g : Delivery). g.place) d in omega arith)
-      (λ k x at came_.
+      ∙ v.nth_is)) in
+      let pl : suc k ≡ suc l = ap (λ (g : Delivery). g.place) d in omega arith) (λ k x at came_.
       let d = delivered k x at came_ in (
         d.index,
         good.arrived p d.index d.placed ∙ ap Some d.same,
-        rw (came_, ap fell (sym d.same) ∙ not-fell d.index (suc d.count) d.placed d.at) refl,
-      ))
+        rw (came_, ap fell (sym d.same) ∙ not-fell d.index (suc d.count) d.placed d.at) refl))
       (λ i j k x y less at kept_ at' kept' given_.
       let came_x = (kept-is x kept_).0 in
       let d = delivered k y given_ (kept-is y kept').0 in

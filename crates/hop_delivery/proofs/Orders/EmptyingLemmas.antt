@@ -43,8 +43,7 @@ module _ (about : BoardSizes) (order : List (StepBy BoardStep)) (fit : FitSizes 
   where
     -- what was put in a visit was put before a close that a later setting needs
     put_before_close : (p k s shut word : ℕ) → k < a.placed p → a.entered p k < s
-        → IsStep order shut
-        (closer about) (Gate (Shut word)) → shut < s
+        → IsStep order shut (closer about) (Gate (Shut word)) → shut < s
         → ((m : ℕ) → shut < m → m < s → IsStep order m (closer about) (Gate Opened) → ⊥)
         → a.put p k < shut
     put_before_close p k s shut word kp from shuts less stays =
@@ -58,8 +57,7 @@ module _ (about : BoardSizes) (order : List (StepBy BoardStep)) (fit : FitSizes 
         (let in_ = inside_at about order lawful q (a.entered p k) u v.word m v.enters v.stays b c in
         let shut_ = closed_at about order lawful shut s word m shuts stays d e in
         let open_ = unshut about (gates_of (past m order)) (gates_past about order m lawful) q
-        seat_in
-        in_ in
+        seat_in in_ in
         absurd (omega arith)) in
         elim (cases_lt u shut) [
           | inl l ↦ l
@@ -70,10 +68,7 @@ module _ (about : BoardSizes) (order : List (StepBy BoardStep)) (fit : FitSizes 
                 (sym e) shuts)).1
             | inr ne ↦ elim (cases_lt s u) [
               | inl l ↦ absurd (clash s from (omega arith) less (omega arith))
-              | inr le ↦ absurd (clash u v.after (omega arith) (omega arith) le)
-            ]
-          ]
-        ]
+              | inr le ↦ absurd (clash u v.after (omega arith) (omega arith) le) ] ] ]
 
     -- Where a test of settings holds at the visit k and not at a later one, and each change by
     -- which
@@ -82,10 +77,8 @@ module _ (about : BoardSizes) (order : List (StepBy BoardStep)) (fit : FitSizes 
     -- visit's put.
     pub empties : (p i k j n : ℕ) (test : (ℕ → ℕ) → Bool) → i ≤ k → k < j → j < a.placed p
         → test (settings_at about order a r p k) ≡ true → test (settings_at about order a r p j) ≡
-        false
-        → ((s : ℕ → ℕ) (w v : ℕ) → test s ≡ true → test (with_setting s w v) ≡ false
-        → r.affects s w v
-        (lane_chosen a p i) ≡ true)
+        false → ((s : ℕ → ℕ) (w v : ℕ) → test s ≡ true → test (with_setting s w v) ≡ false
+        → r.affects s w v (lane_chosen a p i) ≡ true)
         → At about order a r p i n → n ≤ retired_at about order a r p j (lane_chosen a p i)
     empties p i k j n test le less jp yes_ no_ affects at =
         let ek : ℕ = a.entered p k in let ej : ℕ = a.entered p j in
@@ -111,15 +104,11 @@ module _ (about : BoardSizes) (order : List (StepBy BoardStep)) (fit : FitSizes 
         let after = w.after_shut in let after' = w.after_weighed in let before = w.before in
         let closed_before = put_before_close p k s w.shut w.word (omega arith) (omega arith) w.shuts
         (omega arith) w.stays in
-        let earlier : a.put p i ≤ a.put p k =
-        elim (cases_eq i k) [
-          | inl e ↦ (let z : a.put p i ≡ a.put p k = ap (a.put p) e in
-              omega arith)
+        let earlier : a.put p i ≤ a.put p k = elim (cases_eq i k) [
+          | inl e ↦ (let z : a.put p i ≡ a.put p k = ap (a.put p) e in omega arith)
           | inr ne ↦ (let z = puts_rise about order lawful a r good p i k (omega arith)
-              (omega arith) in omega arith)
-        ] in
+              (omega arith) in omega arith) ] in
         let lies = counts about order lawful a r good p i n w.counted (omega arith) at
         (omega arith) in
         let all_gone = emptied about order fit lawful s l w in
-        let up = retired_later about order w.weighed (a.put p j) l (omega arith) in
-        omega arith
+        let up = retired_later about order w.weighed (a.put p j) l (omega arith) in omega arith

@@ -63,12 +63,9 @@ module _ (f : ℕ → Bool) where
       → slice_get (filter f xs) (rank xs j) ≡ Some x
   filter-at [] j x at yes_ = none-some x at
   filter-at (y ∷ ys) zero x at yes_ = let e : f y ≡ true = ap f (some-is y x at) ∙ yes_ in rw e at
-  filter-at (y ∷ ys) (suc j) x at yes_ =
-      elim (cases_Bool (f y)) [
+  filter-at (y ∷ ys) (suc j) x at yes_ = elim (cases_Bool (f y)) [
         | inl e ↦ rw e (filter-at ys j x at yes_)
-        | inr e ↦
-            rw e (filter-at ys j x at yes_)
-      ]
+        | inr e ↦ rw e (filter-at ys j x at yes_) ]
 
   filter-from : (xs : List ℕ) (i x : ℕ) → slice_get (filter f xs) i ≡ Some x → (j : ℕ)
       × (slice_get xs j ≡ Some x) × (f x ≡ true) × (rank xs j ≡ i)
@@ -84,8 +81,7 @@ module _ (f : ℕ → Bool) where
 
   rank-le : (xs : List ℕ) (i j : ℕ) → i ≤ j → rank xs i ≤ rank xs j
   rank-le [] i j le = let a : rank [] i ≡ 0 = none i in let b : rank [] j ≡ 0 = none j in
-      omega arith
-    where
+      omega arith where
       none : (k : ℕ) → rank [] k ≡ 0
       none zero = refl
       none (suc k) = refl
@@ -113,21 +109,18 @@ module _ (f : ℕ → Bool) where
     | inl e ↦ e
     | inr ne ↦ elim (cases_lt i j) [
       | inl l ↦ (let t = rank-lt xs i j x l at yes_ in absurd (omega arith))
-      | inr g ↦ (let t = rank-lt xs j i y (omega arith) at' yes' in absurd (omega arith))
-    ]
+      | inr g ↦ (let t = rank-lt xs j i y (omega arith) at' yes' in absurd (omega arith)) ]
   ]
 
 -- Those of a list that pass a test are a prefix of those of another that pass a second one.
 module _ (f g : ℕ → Bool) (all given : List ℕ)
     (once : (i j x : ℕ) → slice_get all i ≡ Some x → slice_get all j ≡ Some x → i ≡ j)
     (once_there : (i j x : ℕ) → f x ≡ true → slice_get given i ≡ Some x → slice_get given j ≡ Some x
-    → i ≡ j)
-    (from : (k x : ℕ) → slice_get given k ≡ Some x → f x ≡ true → (i : ℕ)
+    → i ≡ j) (from : (k x : ℕ) → slice_get given k ≡ Some x → f x ≡ true → (i : ℕ)
     × (slice_get all i ≡ Some x) × (g x ≡ true))
     (earlier : (i j k x y : ℕ) → i < j → slice_get all i ≡ Some x → g x ≡ true
     → slice_get all j ≡ Some y → g y ≡ true → slice_get given k ≡ Some y → (l : ℕ) × (l < k)
-    × (slice_get given l ≡ Some x) × (f x ≡ true))
-  where
+    × (slice_get given l ≡ Some x) × (f x ≡ true)) where
     abbrev xs : List ℕ
     xs = filter g all
 
@@ -143,8 +136,7 @@ module _ (f g : ℕ → Bool) (all given : List ℕ)
       once = λ i j il jl e. (
           let a = filter-from g all i (slice_index xs i) (get-of xs i il) in
           let b = filter-from g all j (slice_index xs i) (get-of xs j jl ∙ ap Some (sym e)) in
-          let k = once a.0 b.0 (slice_index xs i) a.1 b.1 in
-          sym a.3 ∙ (ap (rank g all) k ∙ b.3));
+          let k = once a.0 b.0 (slice_index xs i) a.1 b.1 in sym a.3 ∙ (ap (rank g all) k ∙ b.3));
       once_there = λ i j il jl e. (
           let a = filter-from f given i (slice_index ys i) (get-of ys i il) in
           let b = filter-from f given j (slice_index ys i) (get-of ys j jl ∙ ap Some (sym e)) in
@@ -154,8 +146,7 @@ module _ (f g : ℕ → Bool) (all given : List ℕ)
           let b = filter-from f given j (slice_index ys j) (get-of ys j jl) in
           let a = from b.0 (slice_index ys j) b.1 b.2 in
           let h = index-of xs (rank g all a.0) (slice_index ys j)
-          (filter-at g all a.0 (slice_index ys j) a.1 a.2) in
-          (rank g all a.0, h.0, h.1));
+          (filter-at g all a.0 (slice_index ys j) a.1 a.2) in (rank g all a.0, h.0, h.1));
       earlier = λ i k j ik kl jl e. (
           let a = filter-from g all i (slice_index xs i) (get-of xs i (omega arith)) in
           let c = filter-from g all k (slice_index xs k) (get-of xs k kl) in

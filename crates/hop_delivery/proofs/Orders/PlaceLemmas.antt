@@ -21,8 +21,7 @@ place-rest : (x y n : ℕ) (ys : List ℕ) (o : Option ℕ) → place_in x ys �
 place-rest x y n ys None is rest f = none-some n f
 place-rest x y n ys (Some m) is rest f =
     let g : suc m ≡ n = some-is (suc m) n f in let pos = (place_in-le x ys m is).0 in
-    let k : n - 1 ≡ suc (m - 1) = omega arith in
-    ap (slice_get (y ∷ ys)) k ∙ rest m is
+    let k : n - 1 ≡ suc (m - 1) = omega arith in ap (slice_get (y ∷ ys)) k ∙ rest m is
 
 pub place-get : (x n : ℕ) (xs : List ℕ) → place_in x xs ≡ Some n → slice_get xs (n - 1) ≡ Some x
 place-get x n [] e = none-some n e
@@ -105,14 +104,12 @@ module _ (about : BoardSizes) (order : List (StepBy BoardStep)) (lawful : IsLawf
 
   pub put_before : (p i j : ℕ) → i < j → j < a.placed p → a.put p i < a.entered p j
   put_before p i zero l k = absurd (omega arith)
-  put_before p i (suc j) l k =
-      elim (cases_eq i j) [
+  put_before p i (suc j) l k = elim (cases_eq i j) [
         | inl e ↦ subst (λ (z : ℕ). a.put p z < a.entered p (suc j)) (sym e) (good.in_order p j k)
         | inr ne ↦ (
             let b = put_before p i j (omega arith) (omega arith) in
             let v = (good.visits p j (omega arith)).after in
-            let d = good.in_order p j k in omega arith)
-      ]
+            let d = good.in_order p j k in omega arith) ]
 
   pub puts_rise : (p i j : ℕ) → i < j → j < a.placed p → a.put p i < a.put p j
   puts_rise p i j l k = let b = put_before p i j l k in let v = (good.visits p j k).after in
@@ -134,20 +131,13 @@ module _ (about : BoardSizes) (order : List (StepBy BoardStep)) (lawful : IsLawf
       let b = good.all_puts u q l id hash answer is in
       let v = good.visits b.0 b.1 b.2 in
       let mine : IsPut about order u (a.seat b.0) (lane_chosen a b.0 b.1) (c b.0 b.1).id v.hash
-      v.answer =
-      subst (λ (z : ℕ). IsPut about order z (a.seat b.0) (lane_chosen a b.0 b.1)
+      v.answer = subst (λ (z : ℕ). IsPut about order z (a.seat b.0) (lane_chosen a b.0 b.1)
       (c b.0 b.1).id v.hash v.answer) b.3 v.puts in
       let same = same_put about order u (a.seat b.0) q (lane_chosen a b.0 b.1) l (c b.0 b.1).id id
       v.hash hash v.answer answer mine is in
       record {
-        producer = b.0;
-        index = b.1;
-        placed = b.2;
-        moment = b.3;
-        same_id =
-            same.1;
-        same_lane = same.0;
-      }
+        producer = b.0; index = b.1; placed = b.2; moment = b.3;
+        same_id = same.1; same_lane = same.0; }
 
   -- two choices of one packet are one
   pub once : (p q i j : ℕ) → i < a.placed p → j < a.placed q → (c p i).id ≡ (c q j).id → (p ≡ q)
@@ -161,10 +151,8 @@ module _ (about : BoardSizes) (order : List (StepBy BoardStep)) (lawful : IsLawf
   own_put p i u q l hash answer ip is =
       let b = put_is u q l (c p i).id hash answer is in
       let same = once b.producer p b.index i b.placed ip b.same_id in (
-        (λ k. a.put (sym same.0 k) (sym same.1 k))
-            ∙ b.moment,
-        (λ k. lane_chosen a (sym same.0 k) (sym same.1 k)) ∙ b.same_lane,
-      )
+        (λ k. a.put (sym same.0 k) (sym same.1 k)) ∙ b.moment,
+        (λ k. lane_chosen a (sym same.0 k) (sym same.1 k)) ∙ b.same_lane)
 
   -- ---- accepted packets
 
@@ -192,14 +180,11 @@ module _ (about : BoardSizes) (order : List (StepBy BoardStep)) (lawful : IsLawf
       let here : found_at p i ≡ length (lane_then about order u.moment l).accepted =
       ap (λ z. length (lane_then about order z l).accepted) own in
       record {
-        seat = u.seat;
-        hash = u.hash;
-        answer = u.answer;
+        seat = u.seat; hash = u.hash; answer = u.answer;
         is = subst (λ (z : ℕ). IsPut about order z u.seat l (c p i).id u.hash u.answer)
             (sym own) u.is;
         cause = ap (λ (z : ℕ). lane_drop_cause (lane_then about order z l) u.hash) own ∙ u.cause;
-        found = omega arith;
-      }
+        found = omega arith; }
 
   pub put_at : (p i q : ℕ) (hash : Option ℕ) (answer : Put) → i < a.placed p → IsPut about order
       (a.put p i) q (lane_chosen a p i) (c p i).id hash answer
@@ -212,8 +197,7 @@ module _ (about : BoardSizes) (order : List (StepBy BoardStep)) (lawful : IsLawf
       (length order) none inside in
       place-at (acc l) (found_at p i) (c p i).id
       (ap (λ es. slice_get (boards.lane_at about es l).accepted (found_at p i)) (sym whole)
-      ∙ stands)
-      (λ k at. let u = was_put about order lawful l k (c p i).id at in
+      ∙ stands) (λ k at. let u = was_put about order lawful l k (c p i).id at in
       let own = (own_put p i u.moment u.seat l u.hash u.answer ip u.is).0 in
       sym (ap (λ (z : ℕ). length (lane_then about order z l).accepted) own ∙ u.found))
 

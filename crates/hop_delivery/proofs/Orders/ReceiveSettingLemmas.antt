@@ -17,8 +17,7 @@ any-here : (test : ℕ → Bool) (xs : List ℕ) (i : ℕ) → i < length xs →
 any-here test [] i l e = absurd (omega arith)
 any-here test (x ∷ xs) zero l e = rw e refl
 any-here test (x ∷ xs) (suc i) l e = ap (λ b. test x || b) (any-here test xs i (omega arith) e)
-    ∙ or-right (test x)
-  where
+    ∙ or-right (test x) where
     or-right : (b : Bool) → (b || true) ≡ true
     or-right true = refl
     or-right false = refl
@@ -30,8 +29,7 @@ any-in test a (suc n) c from to e = elim (cases_eq c a) [
   | inl is ↦ (let y : test a ≡ true = ap test (sym is) ∙ e in rw y refl)
   | inr ne ↦ ap (λ b. test a || b) (any-in test (a + 1) n c (omega arith) (omega arith) e)
       ∙ or-right (test a)
-]
-  where
+] where
     or-right : (b : Bool) → (b || true) ≡ true
     or-right true = refl
     or-right false = refl
@@ -48,8 +46,7 @@ or-other false b e = e
 
 -- a processor of a mask is below 32
 has-few : (m : CpuMask) (c : ℕ) → has m c ≡ true → c < 32
-has-few m c e = ltb-true c 32 (first (nat_lt c 32) _ e)
-  where
+has-few m c e = ltb-true c 32 (first (nat_lt c 32) _ e) where
     first : (a b : Bool) → (a && b) ≡ true → a ≡ true
     first true b e = refl
     first false b e = absurd (true≢false (sym e))
@@ -62,12 +59,10 @@ moved : (cpu home : ℕ) (old new : CpuMask) → online_or old cpu home ≢ onli
 moved cpu home old new ne = elim (cases_Bool (has old cpu)) [
   | inl a ↦ elim (cases_Bool (has new cpu)) [
     | inl b ↦ absurd (ne (rw (a, b) refl))
-    | inr b ↦ inl (rw a refl, a, b)
-  ]
+    | inr b ↦ inl (rw a refl, a, b) ]
   | inr a ↦ elim (cases_Bool (has new cpu)) [
     | inl b ↦ inr (rw a refl, a, b)
-    | inr b ↦ absurd (ne (rw (a, b) refl))
-  ]
+    | inr b ↦ absurd (ne (rw (a, b) refl)) ]
 ]
 
 -- one of two processors that is online
@@ -137,8 +132,7 @@ module _ (q : Queues) where
               (any-here (λ home. home == l) q.homes p few (eq-eqb home l l_is))
               (any-in (λ c. not (has (online q s) c) && has (mask v) c) 0 32 cpu (omega arith)
               (has-few (mask v) cpu a.2)
-              (both-true (not (has (online q s) cpu)) (has (mask v) cpu) (ap not a.1) a.2))))
-        ])
+              (both-true (not (has (online q s) cpu)) (has (mask v) cpu) (ap not a.1) a.2)))) ])
   ]
 
   moves : (s : ℕ → ℕ) (w v p f : ℕ) → rps q s p f ≢ rps q (with_setting s w v) p f
@@ -147,8 +141,7 @@ module _ (q : Queues) where
     | inr other ↦ ap (λ b. if b then empty_for_mask q (online q s) (mask v) (rps q s p f) else true)
         (ne_eqb w W other)
     | inl e ↦ elim (cases_Bool (nat_lt p Q)) [
-      | inr out ↦ absurd (ne
-          (ap (λ b. if b then rps_choice_of (mask (s p)) (q.hash f) (online q s)
+      | inr out ↦ absurd (ne (ap (λ b. if b then rps_choice_of (mask (s p)) (q.hash f) (online q s)
           (slice_index q.homes p) else 0) out
           ∙ sym (ap (λ b. if b then rps_choice_of (mask (with_setting s w v p)) (q.hash f)
           (online q (with_setting s w v)) (slice_index q.homes p) else 0) out)))
@@ -167,8 +160,7 @@ module _ (q : Queues) where
           (mask (same_word s w v W e i)) (slice_index q.homes p)) in
           ap (λ b. if b then empty_for_mask q (online q s) (mask v) l else true) (eq-eqb w W e)
           ∙ by_mask s v p l (mask (s p)) (q.hash f) few (λ same. ne (old ∙ (same ∙ sym new)))
-          (sym old))
-    ]
+          (sym old)) ]
   ]
 
   resizes : (s : ℕ → ℕ) (w v p l : ℕ) → (receive_steering q).shape s p ≢ (receive_steering q).shape
@@ -182,14 +174,12 @@ module _ (q : Queues) where
       | inl in_ ↦ (let few : p < Q = ltb-true p Q in_ in
           absurd (ne (ap (λ b. if b then s (Q + p) else 0) in_
           ∙ (sym (other_word s w v (Q + p) (λ h. absurd (omega arith)))
-          ∙ sym (ap (λ b. if b then with_setting s w v (Q + p) else 0) in_)))))
-    ]
+          ∙ sym (ap (λ b. if b then with_setting s w v (Q + p) else 0) in_))))) ]
   ]
 
   pub receive_steers : (lanes : ℕ) → IsSteering lanes (receive_steering q)
   receive_steers lanes = record {
-    off = λ s w v l less on gone. off s w v l on gone;
-    moves = λ s w v p f ne. moves s w v p f ne;
+    off = λ s w v l less on gone. off s w v l on gone; moves = λ s w v p f ne. moves s w v p f ne;
     resizes = λ s w v p l less ne. resizes s w v p l ne;
   }
 
@@ -198,8 +188,7 @@ module _ (q : Queues) where
   choice_online : (m on : CpuMask) (hash : Option ℕ) (home : ℕ) → has on home ≡ true
       → has on (rps_choice_of m hash on home) ≡ true
   choice_online m on None home is = is
-  choice_online m on (Some h) home is = by_empty (is_empty (those_below 32 (has m)))
-    where
+  choice_online m on (Some h) home is = by_empty (is_empty (those_below 32 (has m))) where
       cpu : ℕ
       cpu = at_hash (those_below 32 (has m)) h
 
@@ -210,8 +199,7 @@ module _ (q : Queues) where
   pub goals_online : (s : ℕ → ℕ) (p f : ℕ) (class want : Option ℕ) → p < Q → has (online q s)
       (slice_index q.homes p) ≡ true → has (online q s)
       (goal_of (receive_steering q) s p f class want) ≡ true
-  goals_online s p f class want few home = by_class class want
-    where
+  goals_online s p f class want few home = by_class class want where
       plain : has (online q s) (rps q s p f) ≡ true
       plain = ap (λ b. has (online q s)
           (if b then rps_choice_of (mask (s p)) (q.hash f) (online q s) (slice_index q.homes p) else

@@ -16,9 +16,7 @@ accepted_left lists l = (lane_at lists.lanes l).accepted
 -- producer and flow the packets left in the flow's out lane are a prefix of those that arrived,
 -- without those that were dropped.
 abbrev pub FlowsAreInOrder : BoardSizes → (ℕ → List BoardStep) → BoardLists → Type 0
-FlowsAreInOrder about own lists =
-    (t : Execution) (r : Steering) → IsSteering about.lanes r
-    → MeetsPremises about own (accepted_left lists) t r
-    → (p f : ℕ)
+FlowsAreInOrder about own lists = (t : Execution) (r : Steering) → IsSteering about.lanes r
+    → MeetsPremises about own (accepted_left lists) t r → (p f : ℕ)
     → InOrder (came_by t r p f) (t.arrivals p)
     (map (λ (lane : LaneList). lane.drops) lists.lanes) (list_at lists.outs (r.to f))

@@ -12,8 +12,7 @@ use Rattle.hop_delivery.specs.Orders.{Runs.Execution, Runs.turns_of, Turns.Turn,
 
 -- No packet is put twice: two own steps that put it are one step of one seat.
 abbrev pub PutsAreOnce : (ℕ → List BoardStep) → Type 0
-PutsAreOnce own =
-    (p q j k l m id : ℕ) (hash other : Option ℕ) (answer reply : Put)
+PutsAreOnce own = (p q j k l m id : ℕ) (hash other : Option ℕ) (answer reply : Put)
     → Has (own p) j (put_step l id hash answer) → Has (own q) k (put_step m id other reply)
     → (p ≡ q) × (j ≡ k)
 
@@ -35,8 +34,7 @@ TurnsPutOnce = (own : ℕ → List BoardStep) (t : Execution) → AreTurnsOf own
 -- If no packet is put twice, the answer of a put is the packet's place among those that its lane
 -- accepted; a dropped packet is not among them.
 abbrev pub AnswersArePlaces : BoardSizes → (ℕ → List BoardStep) → BoardLists → Type 0
-AnswersArePlaces about own lists =
-    PutsAreOnce own → (q k l id : ℕ) (hash : Option ℕ) (answer : Put)
+AnswersArePlaces about own lists = PutsAreOnce own → (q k l id : ℕ) (hash : Option ℕ) (answer : Put)
     → Has (own q) k (put_step l id hash answer)
     → IsPutAt about.start (place_in id (accepted_left lists l)) (Some answer)
 

@@ -60,12 +60,10 @@ AreAffected r s c homes cpus txs l sets =
 abbrev pub ReceivedCommandsEmpty : Type 0
 ReceivedCommandsEmpty =
     (q : Queues) (s : ℕ → ℕ) (c : Command) (cpus txs l : ℕ) → NamesCpu c → l < cpus
-    → AreAffected (receive_steering q) s c q.homes cpus txs l
-    (received_sets q s c)
+    → AreAffected (receive_steering q) s c q.homes cpus txs l (received_sets q s c)
 
 -- On a transmit board the lanes that have to be empty for the settings of a command are among those
 -- that it affects.
 abbrev pub SentCommandsEmpty : Type 0
-SentCommandsEmpty =
-    (flow : ℕ → ℕ) (s : ℕ → ℕ) (c : Command) (homes : List ℕ) (count cpus l : ℕ)
+SentCommandsEmpty = (flow : ℕ → ℕ) (s : ℕ → ℕ) (c : Command) (homes : List ℕ) (count cpus l : ℕ)
     → AreAffected (transmit_steering flow) s c homes cpus count l (sent_sets count c)

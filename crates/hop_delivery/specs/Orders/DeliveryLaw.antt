@@ -20,6 +20,5 @@ abbrev pub DeliversInOrder : Type 0
 DeliversInOrder =
     (about : BoardSizes) (order : List (StepBy BoardStep)) (t : Execution) (r : Steering)
     → FitSizes about → IsLawful about order → IsSteering about.lanes r
-    → MeetsPremises about (own_of order) (accepted about order) t r
-    → (p f : ℕ)
+    → MeetsPremises about (own_of order) (accepted about order) t r → (p f : ℕ)
     → InOrder (came_by t r p f) (t.arrivals p) (drops about order) (out about order (r.to f))

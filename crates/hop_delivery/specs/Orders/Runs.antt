@@ -86,16 +86,14 @@ module _ (about : BoardSizes) (own : ℕ → List BoardStep) where
 
     -- The lane to which the packet of the producer's i-th turn is to go.
     abbrev pub goal_at : ℕ → ℕ → Turn → ℕ
-    goal_at p i u =
-        goal_of r (settings_at p i) p (flow_at u) (class_at p i u) u.chosen.choice.want
+    goal_at p i u = goal_of r (settings_at p i) p (flow_at u) (class_at p i u) u.chosen.choice.want
 
     -- The choice of the producer's i-th turn is by the migration rule, with the settings of its
     -- visit, over the entry of its class. A head that it keeps was loaded in the visit, before the
     -- put, from the class's current lane. The lane to which the packet is to go is online.
     pub record IsByRule (p i : ℕ) (u : Turn) : Type 0 where
       pub head : ℕ
-      pub rule : u.chosen.choice
-          ≡ migrate (class_at p i u) u.chosen.choice.want (goal_at p i u)
+      pub rule : u.chosen.choice ≡ migrate (class_at p i u) u.chosen.choice.want (goal_at p i u)
           (entry about.start accepted (before p i)) (λ _. head) (r.online (settings_at p i))
       pub loaded : (k l : ℕ) → class_at p i u ≡ Some k
           → current_lane (of_class k (before p i)) ≡ Some l → u.chosen.choice.head ≡ Some head

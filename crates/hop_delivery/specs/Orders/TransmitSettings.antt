@@ -9,17 +9,10 @@ use Rattle.hop_delivery.specs.Orders.{ReceiveSettings.mask, Runs.Steering}
 -- How a transmit board steers, by the flow of each packet: what is wanted of a reply is the queue
 -- that was picked.
 abbrev pub transmit_steering : (ℕ → ℕ) → Steering
-transmit_steering flow =
-    record {
-      flow = flow;
-      to = λ f. 0;
-      shape = λ s p. 0;
-      class = λ shape f. Some f;
-      plain = λ s p f. 0;
-      desired = λ s p f want. unwrap_or want 0;
-      online = λ s l. true;
-      affects = λ s w v l. false;
-    }
+transmit_steering flow = record {
+      flow = flow; to = λ f. 0; shape = λ s p. 0; class = λ shape f. Some f;
+      plain = λ s p f. 0; desired = λ s p f want. unwrap_or want 0;
+      online = λ s l. true; affects = λ s w v l. false; }
 
 -- The transmit queue that is picked by settings: the words are the processor masks of the transmit
 -- queues, then their receive-queue masks.
