@@ -19,7 +19,7 @@ use Rattle.hop_delivery.proofs.Names.{FitSizes, BoardSizes, BoardStep, LaneStep,
 use Rattle.hop_delivery.proofs.Names.{step-inside, Steering, IsSteering}
 use Rattle.hop_delivery.proofs.Orders.AccountLemmas.{Account, IsAccount, At, chosen, lane_chosen}
 use Rattle.hop_delivery.proofs.Orders.AccountedLemmas.{account, is_account}
-use Rattle.hop_delivery.proofs.Orders.FilterLemmas.{any-of, any-at, any-range, range-any}
+use Rattle.hop_delivery.proofs.Orders.FilterLemmas.{any-at, any-member, any-range, both, range-any}
 use Rattle.hop_delivery.proofs.Orders.{FilterLemmas.prefix_of_parts, PlaceLemmas.place-get}
 use Rattle.hop_delivery.proofs.Orders.PlaceLemmas.{put_is, once, at_put, put_at, own_put, same_put}
 use Rattle.hop_delivery.proofs.Orders.PlaceLemmas.{found_at, in_range, rises as places_rise}
@@ -53,15 +53,10 @@ module _ (about : BoardSizes) (order : List (StepBy BoardStep)) (fit : FitSizes 
   lawful_lanes : lanes.AreLawful about ls
   lawful_lanes = (parts about order lawful).0
 
-  both : (x y : Bool) → (x && y) ≡ true → (x ≡ true) × (y ≡ true)
-  both true true e = (refl, refl)
-  both true false e = absurd (true≢false (sym e))
-  both false y e = absurd (true≢false (sym e))
-
   came-is : (x : ℕ) → came x ≡ true → (i : ℕ) × (slice_get arrived i ≡ Some x) × (r.flow x ≡ f)
   came-is x e =
       let b = both (list_any (λ y. y == x) arrived) (r.flow x == f) e in
-      let m = any-of (λ y. y == x) arrived b.0 in
+      let m = any-at (λ y. y == x) arrived b.0 in
       (m.0, m.2 ∙ ap Some (eqb-true m.1 x m.3), eqb-true (r.flow x) f b.1)
 
   kept-is : (x : ℕ) → kept x ≡ true → (came x ≡ true) × (fell x ≡ false)
@@ -155,19 +150,9 @@ module _ (about : BoardSizes) (order : List (StepBy BoardStep)) (fit : FitSizes 
       ap (λ z. (put_by z x id (Rattle.steer_base.specs.Drops.bucket_of hash)).drops) caused in
       let at : slice_get (after_put x id hash).drops (length x.drops) ≡ Some d =
       ap (λ z. slice_get z (length x.drops)) here ∙ get-pushed x.drops d in
-      any-member (drops_at about order l) (length x.drops) d
+      any-member (λ (d : LaneDrop). d.id == id) (drops_at about order l) (length x.drops) d
       (front-get (after_put x id hash).drops (drops_at about order l) (length x.drops) d
-      stands.drops at) (eq-eqb id id refl) where
-      or_true : (b : Bool) → (b || true) ≡ true
-      or_true true = refl
-      or_true false = refl
-
-      any-member : (xs : List LaneDrop) (i : ℕ) (d : LaneDrop) → slice_get xs i ≡ Some d
-          → (d.id == id) ≡ true → list_any (λ (d : LaneDrop). d.id == id) xs ≡ true
-      any-member [] i d at yes_ = none-some d at
-      any-member (y ∷ ys) zero d at yes_ = let e : (y.id == id) ≡ true =
-          ap (λ (z : LaneDrop). z.id == id) (some-is y d at) ∙ yes_ in rw e refl
-      any-member (y ∷ ys) (suc i) d at yes_ = rw (any-member ys i d at yes_) (or_true (y.id == id))
+      stands.drops at) (eq-eqb id id refl)
 
   -- a put packet that did not fall was accepted
   accepted_or : (i : ℕ) → i < a.placed p → fell (c i).id ≡ false → (n : ℕ) × IsAt i (suc n)
@@ -246,16 +231,8 @@ module _ (about : BoardSizes) (order : List (StepBy BoardStep)) (fit : FitSizes 
   -- ---- the law
 
   came-of : (i x : ℕ) → slice_get arrived i ≡ Some x → r.flow x ≡ f → came x ≡ true
-  came-of i x at flow = let e : list_any (λ y. y == x) arrived ≡ true = any arrived i at in
-      rw (e, eq-eqb (r.flow x) f flow) refl where
-      or_true : (b : Bool) → (b || true) ≡ true
-      or_true true = refl
-      or_true false = refl
-
-      any : (xs : List ℕ) (i : ℕ) → slice_get xs i ≡ Some x → list_any (λ y. y == x) xs ≡ true
-      any [] i e = none-some x e
-      any (y ∷ ys) zero e = rw (eq-eqb y x (some-is y x e)) refl
-      any (y ∷ ys) (suc i) e = rw (any ys i e) (or_true (y == x))
+  came-of i x at flow = rw (any-member (λ y. y == x) arrived i x at (eq-eqb x x refl),
+      eq-eqb (r.flow x) f flow) refl
 
   pub in_order : InOrder came arrived (drops about order) (out about order (r.to f))
   in_order = prefix_of_parts came kept arrived (out about order (r.to f))

@@ -1,5 +1,6 @@
 -- Order of two lists of which a part is looked at.
-use Rattle.std.{proofs.Common.◌||◌, specs.Prelude.filter, specs.Prelude.map}
+use Rattle.std.{proofs.lemmas.Bool.or_left, proofs.lemmas.Bool.or_right, specs.Prelude.◌||◌}
+use Rattle.std.specs.Prelude.{◌&&◌, filter, map}
 use Rattle.steer_base.specs.Orders.{IsPrefix}
 use Rattle.hop_model.{proofs.Pairs.prefix_from_pairs, specs.Pairs.Pairwise}
 use Rattle.hop_rule.proofs.Lists.{get-inside}
@@ -13,16 +14,11 @@ get-of [] i l = absurd (omega arith)
 get-of (x ∷ xs) zero l = refl
 get-of (x ∷ xs) (suc i) l = get-of xs i (omega arith)
 
--- a test that one of a list passes
-pub any-of : (test : ℕ → Bool) (xs : List ℕ) → list_any test xs ≡ true → (i : ℕ) × (x : ℕ)
-    × (slice_get xs i ≡ Some x) × (test x ≡ true)
-any-of test [] e = absurd (true≢false (sym e))
-any-of test (x ∷ xs) e = elim (cases_Bool (test x)) [
-  | inl y ↦ (0, x, refl, y)
-  | inr n ↦ (let t = any-of test xs (rw n at e) in (suc t.0, t.1, t.2, t.3))
-]
+pub both : (x y : Bool) → (x && y) ≡ true → (x ≡ true) × (y ≡ true)
+both true y e = (refl, e)
+both false y e = absurd (true≢false (sym e))
 
--- the same of any list
+-- a test that one of a list passes
 pub any-at : {A : Type 0} (test : A → Bool) (xs : List A) → list_any test xs ≡ true → (i : ℕ)
     × (x : A) × (slice_get xs i ≡ Some x) × (test x ≡ true)
 any-at test [] e = absurd (true≢false (sym e))
@@ -30,6 +26,12 @@ any-at test (x ∷ xs) e = elim (cases_Bool (test x)) [
   | inl y ↦ (0, x, refl, y)
   | inr n ↦ (let t = any-at test xs (rw n at e) in (suc t.0, t.1, t.2, t.3))
 ]
+
+pub any-member : {A : Type 0} (test : A → Bool) (xs : List A) (i : ℕ) (x : A)
+    → slice_get xs i ≡ Some x → test x ≡ true → list_any test xs ≡ true
+any-member test [] i x at is = none-some x at
+any-member test (y ∷ ys) zero x at is = or_left (test y) _ (ap test (some-is y x at) ∙ is)
+any-member test (y ∷ ys) (suc i) x at is = or_right (test y) _ (any-member test ys i x at is)
 
 pub any-range : {X : Type 0} (test : X → Bool) (g : ℕ → X) (a n : ℕ)
     → list_any test (map g (range_with_len a n)) ≡ true → (l : ℕ) × (a ≤ l) × (l < a + n)
@@ -41,17 +43,12 @@ any-range test g a (suc n) e = elim (cases_Bool (test (g a))) [
       t.2 in (t.0, omega arith, omega arith, t.3))
 ]
 
-or-right : (a : Bool) → (a || true) ≡ true
-or-right true = refl
-or-right false = refl
-
 pub range-any : {X : Type 0} (test : X → Bool) (g : ℕ → X) (a n l : ℕ) → a ≤ l → l < a + n
     → test (g l) ≡ true → list_any test (map g (range_with_len a n)) ≡ true
 range-any test g a zero l from to e = absurd (omega arith)
 range-any test g a (suc n) l from to e = elim (cases_eq l a) [
-  | inl is ↦ (let y : test (g a) ≡ true = ap (λ z. test (g z)) (sym is) ∙ e in rw y refl)
-  | inr ne ↦ ap (λ b. test (g a) || b) (range-any test g (a + 1) n l (omega arith) (omega arith) e)
-      ∙ or-right (test (g a))
+  | inl is ↦ or_left (test (g a)) _ (ap (λ z. test (g z)) (sym is) ∙ e)
+  | inr ne ↦ or_right (test (g a)) _ (range-any test g (a + 1) n l (omega arith) (omega arith) e)
 ]
 
 module _ (f : ℕ → Bool) where

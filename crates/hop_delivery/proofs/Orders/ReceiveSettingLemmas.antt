@@ -1,5 +1,5 @@
 -- The settings of a receive board steer as the law of delivery in order asks.
-use Rattle.std.proofs.lemmas.Bool.{ne_eqb, ltb-true, lt-ltb}
+use Rattle.std.proofs.lemmas.Bool.{ne_eqb, ltb-true, lt-ltb, and_from, or_left, or_right}
 use Rattle.std.specs.Prelude.{◌==◌, ◌&&◌, ◌||◌}
 use Rattle.steer_base.specs.{Choices.rps_choice_of, Choices.online_or, Sets.those_below}
 use Rattle.steer_base.specs.{Sets.is_empty, Sets.at_hash, declared.cpu_mask.CpuMask.CpuMask}
@@ -9,47 +9,21 @@ use Rattle.hop_delivery.proofs.Names.{refl, ap, ◌∙◌, arith, inl, inr, ◌�
 use Rattle.hop_delivery.proofs.Names.{list_any, range_with_len, cases_Bool, cases_eq, true≢false}
 use Rattle.hop_delivery.proofs.Names.{eq-eqb, has, with_setting, IsSteering, goal_of, Queues}
 use Rattle.hop_delivery.proofs.Names.{online_word, receive_steering}
+use Rattle.hop_delivery.proofs.Orders.FilterLemmas.{any-member, both, get-of}
 use Rattle.hop_delivery.specs.Orders.ReceiveSettings.{mask, queues, online, rps, came_on}
 use Rattle.hop_delivery.specs.Orders.ReceiveSettings.{empty_for_mask, must_be_empty, GoalsAreOnline}
-
-any-here : (test : ℕ → Bool) (xs : List ℕ) (i : ℕ) → i < length xs → test (slice_index xs i) ≡ true
-    → list_any test xs ≡ true
-any-here test [] i l e = absurd (omega arith)
-any-here test (x ∷ xs) zero l e = rw e refl
-any-here test (x ∷ xs) (suc i) l e = ap (λ b. test x || b) (any-here test xs i (omega arith) e)
-    ∙ or-right (test x) where
-    or-right : (b : Bool) → (b || true) ≡ true
-    or-right true = refl
-    or-right false = refl
 
 any-in : (test : ℕ → Bool) (a n c : ℕ) → a ≤ c → c < a + n → test c ≡ true
     → list_any test (range_with_len a n) ≡ true
 any-in test a zero c from to e = absurd (omega arith)
 any-in test a (suc n) c from to e = elim (cases_eq c a) [
-  | inl is ↦ (let y : test a ≡ true = ap test (sym is) ∙ e in rw y refl)
-  | inr ne ↦ ap (λ b. test a || b) (any-in test (a + 1) n c (omega arith) (omega arith) e)
-      ∙ or-right (test a)
-] where
-    or-right : (b : Bool) → (b || true) ≡ true
-    or-right true = refl
-    or-right false = refl
-
-both-true : (a b : Bool) → a ≡ true → b ≡ true → (a && b) ≡ true
-both-true a b e f = rw (e, f) refl
-
-or-left : (a b : Bool) → a ≡ true → (a || b) ≡ true
-or-left a b e = rw e refl
-
-or-other : (a b : Bool) → b ≡ true → (a || b) ≡ true
-or-other true b e = refl
-or-other false b e = e
+  | inl is ↦ or_left (test a) _ (ap test (sym is) ∙ e)
+  | inr ne ↦ or_right (test a) _ (any-in test (a + 1) n c (omega arith) (omega arith) e)
+]
 
 -- a processor of a mask is below 32
 has-few : (m : CpuMask) (c : ℕ) → has m c ≡ true → c < 32
-has-few m c e = ltb-true c 32 (first (nat_lt c 32) _ e) where
-    first : (a b : Bool) → (a && b) ≡ true → a ≡ true
-    first true b e = refl
-    first false b e = absurd (true≢false (sym e))
+has-few m c e = ltb-true c 32 (both (nat_lt c 32) _ e).0
 
 -- a choice that changes with the online mask goes away from one that goes offline, or from the home
 -- as one comes online
@@ -93,8 +67,8 @@ module _ (q : Queues) where
         let new : has (mask v) l ≡ false = sym (ap (λ n. has (mask n) l) (same_word s w v W e))
         ∙ gone in
         ap (λ b. if b then empty_for_mask q (online q s) (mask v) l else true) (eq-eqb w W e)
-        ∙ or-left (has (online q s) l && not (has (mask v) l)) _
-        (both-true (has (online q s) l) (not (has (mask v) l)) on (ap not new)))
+        ∙ or_left (has (online q s) l && not (has (mask v) l)) _
+        (and_from (has (online q s) l) (not (has (mask v) l)) on (ap not new)))
     | inr ne ↦ ap (λ b. if b then empty_for_mask q (online q s) (mask v) l else true)
         (ne_eqb w W ne)
   ]
@@ -120,19 +94,20 @@ module _ (q : Queues) where
         elim (moved cpu home (online q s) (mask v) (λ same. ne (old ∙ (same ∙ sym new)))) [
           | inl a ↦ (
               let l_is : l ≡ cpu = sym is ∙ (old ∙ a.0) in
-              or-left (has (online q s) l && not (has (mask v) l))
+              or_left (has (online q s) l && not (has (mask v) l))
               (list_any (λ home. home == l) q.homes && came_on q (online q s) (mask v))
-              (both-true (has (online q s) l) (not (has (mask v) l))
+              (and_from (has (online q s) l) (not (has (mask v) l))
               (ap (has (online q s)) l_is ∙ a.1) (ap not (ap (has (mask v)) l_is ∙ a.2))))
           | inr a ↦ (
               let l_is : home ≡ l = sym (old ∙ a.0) ∙ is in
-              or-other (has (online q s) l && not (has (mask v) l))
+              or_right (has (online q s) l && not (has (mask v) l))
               (list_any (λ home. home == l) q.homes && came_on q (online q s) (mask v))
-              (both-true (list_any (λ home. home == l) q.homes) (came_on q (online q s) (mask v))
-              (any-here (λ home. home == l) q.homes p few (eq-eqb home l l_is))
+              (and_from (list_any (λ home. home == l) q.homes) (came_on q (online q s) (mask v))
+              (any-member (λ home. home == l) q.homes p home (get-of q.homes p few)
+              (eq-eqb home l l_is))
               (any-in (λ c. not (has (online q s) c) && has (mask v) c) 0 32 cpu (omega arith)
               (has-few (mask v) cpu a.2)
-              (both-true (not (has (online q s) cpu)) (has (mask v) cpu) (ap not a.1) a.2)))) ])
+              (and_from (not (has (online q s) cpu)) (has (mask v) cpu) (ap not a.1) a.2)))) ])
   ]
 
   moves : (s : ℕ → ℕ) (w v p f : ℕ) → rps q s p f ≢ rps q (with_setting s w v) p f
