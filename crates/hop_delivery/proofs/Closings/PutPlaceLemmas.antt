@@ -16,7 +16,7 @@ use Rattle.hop_delivery.proofs.Names.{arith, slice_get, StepBy, steps_of, lane_d
 use Rattle.hop_delivery.proofs.Names.{IsStep, nth_step, BoardSizes, BoardStep, none-some, some-is}
 use Rattle.hop_delivery.proofs.Names.{nth-some, BoardLists, accepted_left, Execution, turns_of}
 use Rattle.hop_delivery.proofs.Names.{Turn, turn_put}
-use Rattle.hop_delivery.proofs.Orders.{AccountedLemmas.nth-all, PlaceLemmas.place-get}
+use Rattle.hop_delivery.proofs.Orders.{AccountLemmas.place-get, AccountedLemmas.nth-all}
 use Rattle.hop_delivery.proofs.Orders.TurnLemmas.{Places, turns_have_places}
 use Rattle.hop_delivery.specs.Closings.PutPlaces.{AnswersArePlaces, AreTurnsOf, HasTurn}
 use Rattle.hop_delivery.specs.Closings.PutPlaces.{PacketsStand, PutsAreOnce, TurnsPutOnce}

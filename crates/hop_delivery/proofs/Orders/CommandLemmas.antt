@@ -65,14 +65,11 @@ module _ (q : Queues) (s : ℕ → ℕ) (cpu l : ℕ) (small : cpu < 32) where
   on_empty e = elim (or_cases (has old l && not (has (with_cpu old cpu) l)) _ e) [
     | inl gone ↦ (
         let g = both (has old l) (not (has (with_cpu old cpu) l)) gone in
-        absurd (true≢false (sym (g.0) ∙ stays_on (has old l) _ (sym (has-with_cpu old cpu l small)
-        ∙ not-true (has (with_cpu old cpu) l) g.1))))
+        absurd (true≢false (sym (g.0) ∙ (or_parts (has old l) _ (sym (has-with_cpu old cpu l small)
+        ∙ not-true (has (with_cpu old cpu) l) g.1)).0)))
     | inr came ↦ (both (list_any (λ home. home == l) q.homes) (came_on q old (with_cpu old cpu))
         came).0
-  ] where
-      stays_on : (a b : Bool) → (a || b) ≡ false → a ≡ false
-      stays_on true b e = absurd (true≢false e)
-      stays_on false b e = refl
+  ]
 
 module _ (q : Queues) (s : ℕ → ℕ) (cpus txs l : ℕ) (less : l < cpus) where
   abbrev Received : Command → SettingChange → Type 0

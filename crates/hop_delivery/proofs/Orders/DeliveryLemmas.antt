@@ -18,12 +18,13 @@ use Rattle.hop_delivery.proofs.Names.{Chosen, Put, StepBy, IsLawful, accepted, n
 use Rattle.hop_delivery.proofs.Names.{FitSizes, BoardSizes, BoardStep, LaneStep, some-is, none-some}
 use Rattle.hop_delivery.proofs.Names.{step-inside, Steering, IsSteering}
 use Rattle.hop_delivery.proofs.Orders.AccountLemmas.{Account, IsAccount, At, chosen, lane_chosen}
+use Rattle.hop_delivery.proofs.Orders.AccountLemmas.{place-get, put_is, once, at_put, put_at}
+use Rattle.hop_delivery.proofs.Orders.AccountLemmas.{own_put, same_put, found_at, in_range}
+use Rattle.hop_delivery.proofs.Orders.AccountLemmas.{rises as places_rise}
 use Rattle.hop_delivery.proofs.Orders.AccountedLemmas.{account, is_account}
 use Rattle.hop_delivery.proofs.Orders.FilterLemmas.{any-at, any-member, any-range, both, range-any}
-use Rattle.hop_delivery.proofs.Orders.{FilterLemmas.prefix_of_parts, PlaceLemmas.place-get}
-use Rattle.hop_delivery.proofs.Orders.PlaceLemmas.{put_is, once, at_put, put_at, own_put, same_put}
-use Rattle.hop_delivery.proofs.Orders.PlaceLemmas.{found_at, in_range, rises as places_rise}
-use Rattle.hop_delivery.{proofs.Orders.WalkLemmas.passed, specs.Orders.DeliveryLaw.DeliversInOrder}
+use Rattle.hop_delivery.proofs.Orders.{FilterLemmas.prefix_of_parts, WalkLemmas.passed}
+use Rattle.hop_delivery.specs.Orders.DeliveryLaw.{DeliversInOrder}
 use Rattle.hop_rule.specs.Lanes as lanes
 
 module _ (about : BoardSizes) (order : List (StepBy BoardStep)) (fit : FitSizes about)

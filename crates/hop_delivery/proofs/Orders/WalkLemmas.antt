@@ -20,9 +20,8 @@ use Rattle.hop_delivery.proofs.Names.{with_setting, past, FitSizes, BoardSizes, 
 use Rattle.hop_delivery.proofs.Names.{step_lawful, IsSteering, Steering, goal_of}
 use Rattle.hop_delivery.proofs.Orders.AccountLemmas.{Account, IsAccount, IsRuled, At, before}
 use Rattle.hop_delivery.proofs.Orders.AccountLemmas.{chosen, class_at, flow_at, lane_chosen}
-use Rattle.hop_delivery.proofs.Orders.AccountLemmas.{retired_at, settings_at, shape_at}
-use Rattle.hop_delivery.proofs.Orders.EmptyingLemmas.{empties}
-use Rattle.hop_delivery.proofs.Orders.PlaceLemmas.{in_range, puts_rise, rises}
+use Rattle.hop_delivery.proofs.Orders.AccountLemmas.{retired_at, settings_at, shape_at, empties}
+use Rattle.hop_delivery.proofs.Orders.AccountLemmas.{in_range, puts_rise, rises}
 
 -- ---- the lesser of two numbers
 
