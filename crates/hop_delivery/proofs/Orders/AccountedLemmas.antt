@@ -56,8 +56,7 @@ module _ {A : Type 0} where
   nth-all P [] j x all at = none-some x at
   nth-all P (y ∷ ys) j x all at = elim (nth-first y ys j x at) [
     | inl old ↦ nth-all P ys j x (All-tail P y ys all) old
-    | inr new ↦ subst P new.0 (All-head P y ys all)
-  ]
+    | inr new ↦ subst P new.0 (All-head P y ys all) ]
 
   -- a list from its k-th member on has the same numbers
   nth-past : (xs : List A) (k j : ℕ) → j < length (past k xs) → nth_step xs j ≡ nth_step
@@ -84,8 +83,7 @@ nth-new (x ∷ xs) ys j d at = let n = length-append xs ys in elim (nth-first x 
       (Some x) (nth_step (xs ++ ys) (length ys + j)) (λ e. absurd (omega arith))
       ∙ nth-new xs ys j d old)
   | inr new ↦ (let k = new.1 in if_same (length (xs ++ ys)) (length ys + j) (Some x)
-      (nth_step (xs ++ ys) (length ys + j)) (omega arith) ∙ ap Some new.0)
-]
+      (nth_step (xs ++ ys) (length ys + j)) (omega arith) ∙ ap Some new.0) ]
 
 -- a list with an opening
 opened_has : (ds : List BoardStep) (j : ℕ) → nth_step ds j ≡ Some (Gate Opened) → 0 < gates.openings
@@ -94,8 +92,7 @@ opened_has [] j at = none-some (Gate Opened) at
 opened_has (d ∷ ds) j at = elim (nth-first d ds j (Gate Opened) at) [
   | inl old ↦ (let more = opened_has ds j old in by_step d more)
   | inr new ↦ subst (λ (x : BoardStep). 0 < gates.openings (gate_steps (x ∷ ds))) (sym new.0)
-      (omega arith)
-] where
+      (omega arith) ] where
     by_gate : (s : GateStep) → 0 < gates.openings (gate_steps ds) → 0 < gates.openings_after s
         (gates.openings (gate_steps ds))
     by_gate Opened more = omega arith
@@ -227,8 +224,7 @@ module _ (about : BoardSizes) (order : List (StepBy BoardStep)) (k l w v : ℕ)
     counts = at_moment C order counted_at (Counted l f.tail) counted_did.1;
     equal = f.equal;
     stays = λ m from to is. none_between about order C (length f.older) k m (Gate (Shut f.word))
-        (Gate (Set w v)) (Gate Opened) shut_did.1 did not_opened from to is;
-  }
+        (Gate (Set w v)) (Gate Opened) shut_did.1 did not_opened from to is; }
 
 -- ---- the account
 
@@ -299,8 +295,7 @@ module _ (about : BoardSizes) (order : List (StepBy BoardStep)) (t : Execution) 
           (turn_put u) visit.after visit.puts;
       stays = λ m from to is. none_between about order q (places.entered (turn_at p i))
           (places.put (turn_at p i)) m (Gate (Entered u.word)) (turn_put u) (Gate Left) visit.enters
-          visit.puts visit.stays from to is;
-    }
+          visit.puts visit.stays from to is; }
 
     settings_is : settings about (past (entered_at p i) order) ≡ executions.settings_at about own
         acc t r p i
@@ -358,8 +353,7 @@ module _ (about : BoardSizes) (order : List (StepBy BoardStep)) (t : Execution) 
             in was_loaded p i u at l w.0 b.head w.1 w.2);
         goal_online = subst (λ (z : (ℕ → ℕ) × Chosen). r.online z.0
             (executions.goal_of r z.0 p (r.flow z.1.id) (r.class (r.shape z.0 p) (r.flow z.1.id))
-            z.1.choice.want) ≡ true) (λ j. (s j, c j)) b.goal_online;
-      }
+            z.1.choice.want) ≡ true) (λ j. (s j, c j)) b.goal_online; }
 
   all_puts_are : (n q l id : ℕ) (hash : Option ℕ) (answer : Put) → IsPut about order n q l id hash
       answer → (p : ℕ) × (i : ℕ) × (i < length (turns_of t p)) × (put_at p i ≡ n)
@@ -420,8 +414,7 @@ module _ (about : BoardSizes) (order : List (StepBy BoardStep)) (t : Execution) 
     given = λ n q o from id place is.
         (let f = from_moment q order n (Lane (Given o from id place)) is in nth-all (GoesRight r)
         (own q) f.0 (Lane (Given o from id place)) (good.given q) f.1);
-    by_rule = ruled; emptied = emptied_are;
-  } where
+    by_rule = ruled; emptied = emptied_are; } where
       few_are : (p : ℕ) → length (turns_of t p) ≤ length (t.choices p)
       few_are p = by_count (length (turns_of t p)) refl where
           by_count : (n : ℕ) → length (turns_of t p) ≡ n → n ≤ length (t.choices p)

@@ -1,6 +1,6 @@
 -- The lanes that have to be empty for the settings of a command are among those that it affects.
 use Rattle.std.proofs.lemmas.Bool.{eqb-true, lt-ltb, not-true, or_cases, or_parts}
-use Rattle.std.proofs.lemmas.{List.Elements.All-nil, List.Elements.All-cons}
+use Rattle.std.proofs.lemmas.List.Elements.{All-nil, All-cons}
 use Rattle.std.specs.Prelude.{◌==◌, ◌&&◌, ◌||◌, if◌then◌else◌}
 use Rattle.steer_base.proofs.MasksLemmas.{has-with_cpu, has-without_cpu}
 use Rattle.steer_base.specs.{Commands.is_affected, Sets.with_cpu, Sets.without_cpu}
@@ -11,8 +11,7 @@ use Rattle.steer_base.specs.declared.cpu_mask.CpuMask.{CpuMask}
 use Rattle.hop_delivery.proofs.Names.{◌≡◌, ◌⊎◌, inl, inr, ℕ, zero, suc, ◌+◌, ◌<◌, Bool, true, false}
 use Rattle.hop_delivery.proofs.Names.{not, List, [], ◌∷◌, refl, sym, ap, ◌∙◌, nat_lt, list_any}
 use Rattle.hop_delivery.proofs.Names.{range_with_len, cases_Bool, true≢false, eq-eqb, has, Queues}
-use Rattle.hop_delivery.proofs.Names.{online_word, receive_steering}
-use Rattle.hop_delivery.proofs.Orders.FilterLemmas.{both}
+use Rattle.hop_delivery.proofs.{Names.online_word, Names.receive_steering, Orders.FilterLemmas.both}
 use Rattle.hop_delivery.specs.Orders.Commands.{SettingChange, made, received_sets, sent_sets}
 use Rattle.hop_delivery.specs.Orders.Commands.{NamesCpu, AreAffected, ReceivedCommandsEmpty}
 use Rattle.hop_delivery.specs.Orders.{Commands.SentCommandsEmpty, ReceiveSettings.came_on}
@@ -43,11 +42,9 @@ module _ (q : Queues) (s : ℕ → ℕ) (cpu l : ℕ) (small : cpu < 32) where
         ∙ not-true (has (without_cpu old cpu) l) g.1 in by_test (has old l) (cpu == l) refl g.0 out)
     | inr came ↦ absurd (true≢false
         (sym (both (list_any (λ home. home == l) q.homes) (came_on q old (without_cpu old cpu))
-        came).1 ∙ none_of _ 0 32 none_came))
-  ] where
+        came).1 ∙ none_of _ 0 32 none_came)) ] where
       by_test : (a b : Bool) → (cpu == l) ≡ b → a ≡ true → (a && not b) ≡ false → (l == cpu) ≡ true
-      by_test true true is on out = eq-eqb l cpu
-          (sym (eqb-true cpu l is))
+      by_test true true is on out = eq-eqb l cpu (sym (eqb-true cpu l is))
       by_test true false is on out = absurd (true≢false out)
       by_test false b is on out = absurd (true≢false (sym on))
 
@@ -68,8 +65,7 @@ module _ (q : Queues) (s : ℕ → ℕ) (cpu l : ℕ) (small : cpu < 32) where
         absurd (true≢false (sym (g.0) ∙ (or_parts (has old l) _ (sym (has-with_cpu old cpu l small)
         ∙ not-true (has (with_cpu old cpu) l) g.1)).0)))
     | inr came ↦ (both (list_any (λ home. home == l) q.homes) (came_on q old (with_cpu old cpu))
-        came).0
-  ]
+        came).0 ]
 
 module _ (q : Queues) (s : ℕ → ℕ) (cpus txs l : ℕ) (less : l < cpus) where
   abbrev Received : Command → SettingChange → Type 0

@@ -134,8 +134,7 @@ module _ (about : BoardSizes) (order : List (StepBy BoardStep)) (fit : FitSizes 
         b.answer w.answer b_is w_is).2 in
         none-some m.1.cause (sym b.cause
         ∙ ((λ j. lane_drop_cause (lane_then about order (own.0 j) (own.1 j)) (hashes j))
-        ∙ w.cause)))
-  ]
+        ∙ w.cause))) ]
 
   -- a put that a lane dropped for a cause is among its drops
   put_fell : (n q l id : ℕ) (hash : Option ℕ) (answer : Put) (cause : DropCause)
@@ -165,8 +164,7 @@ module _ (about : BoardSizes) (order : List (StepBy BoardStep)) (fit : FitSizes 
           × IsAt i (suc n)
       by_cause hash answer is None e = (
         found_at about order lawful a r good p i,
-        put_at about order lawful a r good p i (a.seat p) hash answer ip is e,
-      )
+        put_at about order lawful a r good p i (a.seat p) hash answer ip is e)
       by_cause hash answer is (Some cause) e =
           let l : ℕ = lane_chosen a p i in
           let there = put_fell (a.put p i) (a.seat p) l (c i).id hash answer cause is e in

@@ -1,6 +1,6 @@
 -- Order of two lists of which a part is looked at.
-use Rattle.std.{proofs.lemmas.Bool.or_left, proofs.lemmas.Bool.or_right, specs.Prelude.◌||◌}
-use Rattle.std.specs.Prelude.{◌&&◌, filter, map}
+use Rattle.std.proofs.lemmas.Bool.{or_left, or_right}
+use Rattle.std.specs.Prelude.{◌||◌, ◌&&◌, filter, map}
 use Rattle.steer_base.specs.Orders.{IsPrefix}
 use Rattle.hop_model.{proofs.Pairs.prefix_from_pairs, specs.Pairs.Pairwise}
 use Rattle.hop_rule.proofs.Lists.{get-inside}
@@ -24,8 +24,7 @@ pub any-at : {A : Type 0} (test : A → Bool) (xs : List A) → list_any test xs
 any-at test [] e = absurd (true≢false (sym e))
 any-at test (x ∷ xs) e = elim (cases_Bool (test x)) [
   | inl y ↦ (0, x, refl, y)
-  | inr n ↦ (let t = any-at test xs (rw n at e) in (suc t.0, t.1, t.2, t.3))
-]
+  | inr n ↦ (let t = any-at test xs (rw n at e) in (suc t.0, t.1, t.2, t.3)) ]
 
 pub any-member : {A : Type 0} (test : A → Bool) (xs : List A) (i : ℕ) (x : A)
     → slice_get xs i ≡ Some x → test x ≡ true → list_any test xs ≡ true
@@ -40,16 +39,14 @@ any-range test g a zero e = absurd (true≢false (sym e))
 any-range test g a (suc n) e = elim (cases_Bool (test (g a))) [
   | inl y ↦ (a, omega arith, omega arith, y)
   | inr no_ ↦ (let t = any-range test g (a + 1) n (rw no_ at e) in let u = t.1 in let v =
-      t.2 in (t.0, omega arith, omega arith, t.3))
-]
+      t.2 in (t.0, omega arith, omega arith, t.3)) ]
 
 pub range-any : {X : Type 0} (test : X → Bool) (g : ℕ → X) (a n l : ℕ) → a ≤ l → l < a + n
     → test (g l) ≡ true → list_any test (map g (range_with_len a n)) ≡ true
 range-any test g a zero l from to e = absurd (omega arith)
 range-any test g a (suc n) l from to e = elim (cases_eq l a) [
   | inl is ↦ or_left (test (g a)) _ (ap (λ z. test (g z)) (sym is) ∙ e)
-  | inr ne ↦ or_right (test (g a)) _ (range-any test g (a + 1) n l (omega arith) (omega arith) e)
-]
+  | inr ne ↦ or_right (test (g a)) _ (range-any test g (a + 1) n l (omega arith) (omega arith) e) ]
 
 module _ (f : ℕ → Bool) where
   -- how many of the first j pass
@@ -69,12 +66,10 @@ module _ (f : ℕ → Bool) where
   filter-from [] i x at = none-some x at
   filter-from (y ∷ ys) zero x at = elim (cases_Bool (f y)) [
     | inl e ↦ (let a : Some y ≡ Some x = rw e at at in (0, a, ap f (sym (some-is y x a)) ∙ e, refl))
-    | inr e ↦ (let t = filter-from ys zero x (rw e at at) in (suc t.0, t.1, t.2, rw e t.3))
-  ]
+    | inr e ↦ (let t = filter-from ys zero x (rw e at at) in (suc t.0, t.1, t.2, rw e t.3)) ]
   filter-from (y ∷ ys) (suc i) x at = elim (cases_Bool (f y)) [
     | inl e ↦ (let t = filter-from ys i x (rw e at at) in (suc t.0, t.1, t.2, rw e (ap suc t.3)))
-    | inr e ↦ (let t = filter-from ys (suc i) x (rw e at at) in (suc t.0, t.1, t.2, rw e t.3))
-  ]
+    | inr e ↦ (let t = filter-from ys (suc i) x (rw e at at) in (suc t.0, t.1, t.2, rw e t.3)) ]
 
   rank-le : (xs : List ℕ) (i j : ℕ) → i ≤ j → rank xs i ≤ rank xs j
   rank-le [] i j le = let a : rank [] i ≡ 0 = none i in let b : rank [] j ≡ 0 = none j in
@@ -106,8 +101,7 @@ module _ (f : ℕ → Bool) where
     | inl e ↦ e
     | inr ne ↦ elim (cases_lt i j) [
       | inl l ↦ (let t = rank-lt xs i j x l at yes_ in absurd (omega arith))
-      | inr g ↦ (let t = rank-lt xs j i y (omega arith) at' yes' in absurd (omega arith)) ]
-  ]
+      | inr g ↦ (let t = rank-lt xs j i y (omega arith) at' yes' in absurd (omega arith)) ] ]
 
 -- Those of a list that pass a test are a prefix of those of another that pass a second one.
 module _ (f g : ℕ → Bool) (all given : List ℕ)
@@ -155,8 +149,7 @@ module _ (f g : ℕ → Bool) (all given : List ℕ)
           let h = index-of ys (rank f given t.0) (slice_index xs i)
           (filter-at f given t.0 (slice_index xs i) t.2 t.3) in
           let lt = rank-lt f given t.0 b.0 (slice_index xs i) t.1 t.2 t.3 in
-          (rank f given t.0, (let v = b.3 in omega arith), h.1));
-    }
+          (rank f given t.0, (let v = b.3 in omega arith), h.1)); }
 
     pub prefix_of_parts : IsPrefix ys xs
     prefix_of_parts = prefix_from_pairs xs ys pairwise

@@ -38,8 +38,7 @@ module _ {A : Type 0} where
   part_has {B} f (z ∷ xs) j x y at is = elim (nth-first z xs j x at) [
     | inl old ↦ (let more = part_has f xs j x y old is in by_head (f z) more)
     | inr new ↦ subst (λ (o : Option B). 0 < length (cons_option o (filter_map f xs)))
-        (sym (ap f new.0 ∙ is)) (omega arith)
-  ] where
+        (sym (ap f new.0 ∙ is)) (omega arith) ] where
       by_head : (o : Option B) → 0 < length (filter_map f xs)
           → 0 < length (cons_option o (filter_map f xs))
       by_head None more = more
@@ -138,8 +137,7 @@ module _ (t : StepBy Turn) (ts : List (StepBy Turn)) (newer late older : List Bo
         (Some x) (nth_step (xs ++ ys) (length ys + j)) (λ e. absurd (omega arith))
         ∙ nth-new xs ys j d old)
     | inr new ↦ (let k = new.1 in if_same (length (xs ++ ys)) (length ys + j) (Some x)
-        (nth_step (xs ++ ys) (length ys + j)) (omega arith) ∙ ap Some new.0)
-  ]
+        (nth_step (xs ++ ys) (length ys + j)) (omega arith) ∙ ap Some new.0) ]
 
   abbrev entered : ℕ → ℕ
   entered j = if length ts == j then length older else p.entered j
@@ -159,8 +157,7 @@ module _ (t : StepBy Turn) (ts : List (StepBy Turn)) (newer late older : List Bo
     early = λ j d at. (
         let inside = nth-inside early j d at in (
           length from_entry + j, omega arith, omega arith,
-          in_early (length from_entry + j) (omega arith) ∙ nth-new early from_entry j d at));
-  }
+          in_early (length from_entry + j) (omega arith) ∙ nth-new early from_entry j d at)); }
 
   earlier : (u : Turn) (e v : ℕ) → v < length older → VisitAt older u e v → VisitAt whole u e v
   earlier u e v l a = let lt = a.after in record {
@@ -168,8 +165,7 @@ module _ (t : StepBy Turn) (ts : List (StepBy Turn)) (newer late older : List Bo
     after = a.after;
     stays = λ k from to at. a.stays k from to (sym (in_older k (omega arith)) ∙ at);
     early = λ j d at. (let b = a.early j d at in let to =
-        b.2 in (b.0, b.1, b.2, in_older b.0 (omega arith) ∙ b.3));
-  }
+        b.2 in (b.0, b.1, b.2, in_older b.0 (omega arith) ∙ b.3)); }
 
   visits_ : (j : ℕ) (u : StepBy Turn) → nth_step (t ∷ ts) j ≡ Some u → VisitAt whole u.step
       (entered j) (put j)
@@ -216,8 +212,7 @@ module _ (t : StepBy Turn) (ts : List (StepBy Turn)) (newer late older : List Bo
             | inl c ↦ elim (nth-first (turn_put turn) to_put k d c) [
               | inr e ↦ (
                 length ts, omega arith,
-                if_same (length ts) (length ts) (length to_put) (p.put (length ts)) refl ∙ sym e.1,
-              )
+                if_same (length ts) (length ts) (length to_put) (p.put (length ts)) refl ∙ sym e.1)
               | inl e ↦ elim (nth-split early from_entry k d e) [
                 | inr f ↦ puts_has early f.0 l id hash answer q_early.puts f.1
                 | inl f ↦ elim (nth-first (Gate (Entered turn.word)) older k d f) [
@@ -230,16 +225,14 @@ module _ (t : StepBy Turn) (ts : List (StepBy Turn)) (newer late older : List Bo
   places : Places whole (t ∷ ts)
   places = record {
     entered = entered; put = put; visits = visits_; in_order = in_order_;
-    within = within_; all_puts = all_puts_;
-  }
+    within = within_; all_puts = all_puts_; }
 
 pub turns_have_places : (ds : List BoardStep) (ts : List (StepBy Turn)) → Explained ds ts
     → Places ds ts
 turns_have_places ds [] e = record {
   entered = λ j. 0; put = λ j. 0; visits = λ j t at. none-some t at;
   in_order = λ j k l m. absurd (omega arith); within = λ j l. absurd (omega arith);
-  all_puts = λ k l id hash answer at. puts_has ds k l id hash answer e at;
-}
+  all_puts = λ k l id hash answer at. puts_has ds k l id hash answer e at; }
 turns_have_places ds (t ∷ ts) (newer, late, older, is, no_puts, q_late, q_early, rest) =
     subst (λ (z : List BoardStep). Places z (t ∷ ts)) (sym is)
     (places t ts newer late older no_puts q_late q_early (turns_have_places older ts rest))
@@ -255,8 +248,7 @@ explained_more more ds (t ∷ ts) none (newer, late, older, is, no_puts, q_late,
   more ++ newer, late, older,
   ap (λ xs. more ++ xs) is ∙ sym (append_assoc more newer (visit_with t.step late older)),
   filter_map-append put_in more newer ∙ (ap (λ xs. xs ++ puts_of newer) none ∙ no_puts), q_late,
-  q_early, rest,
-)
+  q_early, rest)
 
 -- a visit with its put
 pub explained_turn : (t : StepBy Turn) (late ds : List BoardStep) (ts : List (StepBy Turn))

@@ -293,8 +293,7 @@ module _ (about : BoardSizes) (order : List (StepBy BoardStep)) (fit : FitSizes 
     is_walk = record {
       start_small = fit.start; few = accepted_fits;
       few_retired = λ i l. retired_fits (a.put p (at_walk i)) l; rising = gone_rises;
-      in_order = in_order; ruled = ruled;
-    }
+      in_order = in_order; ruled = ruled; }
 
     -- of two choices of one class, the earlier packet was retired before the later put, or the
     -- lanes are one
@@ -374,5 +373,4 @@ module _ (about : BoardSizes) (order : List (StepBy BoardStep)) (fit : FitSizes 
         | inr ne ↦ (
             let rise = puts_rise about order lawful a r good p k j (omega arith) l in
             let up = retired_later about order (a.put p k) (a.put p j) (lane i) (omega arith) in
-            omega arith)
-      ]
+            omega arith) ]
