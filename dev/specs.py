@@ -77,9 +77,11 @@ def imports_of(text):
         if alias:
             aliases[alias] = module
         for part in listed.replace("\n", " ").split(","):
-            words = part.split(" as ")
-            if part.strip():
-                names[words[-1].strip().strip("◌")] = (module, words[0].strip())
+            path, *other = part.strip().split(" as ")
+            below, _, name = path.strip().rpartition(".")
+            if name:
+                home = f"{module}.{below}" if below else module
+                names[(other or [name])[0].strip().strip("◌")] = (home, name)
     return names, aliases
 
 

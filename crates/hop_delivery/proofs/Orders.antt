@@ -1,10 +1,8 @@
 pub mod AccountedLemmas
 pub mod AccountLemmas
 pub mod CommandLemmas
-pub mod EmptyingLemmas
 pub mod FilterLemmas
 pub mod DeliveryLemmas
-pub mod PlaceLemmas
 pub mod ReceiveSettingLemmas
 pub mod TransmitSettingLemmas
 pub mod TurnLemmas

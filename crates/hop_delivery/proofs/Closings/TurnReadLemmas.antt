@@ -1,25 +1,19 @@
 -- What a turn knows is of the settings of its visit.
-use Rattle.std.proofs.Common.{append_assoc}
+use Rattle.std.proofs.{Common.append_assoc, lemmas.List.Elements.filter_map-append}
 use Rattle.std.specs.List.{Contains, cons_option}
-use Rattle.std.proofs.lemmas.List.Elements.{filter_map-append}
+use Rattle.hop_rule.proofs.Moments.{nth-between, past-between}
 use Rattle.hop_rule.specs.Boards.{gate_steps}
 use Rattle.hop_rule.specs.Gates.{opened, own_settings, visit, visit_number}
-use Rattle.hop_rule.specs.Owns.{visit_in, visits_of}
-use Rattle.hop_rule.specs.declared.step.GateStep.TheVariants.{Read}
-use Rattle.hop_rule.proofs.Moments.{nth-between, past-between}
-use Rattle.board_api.specs.Laws.Heads.{NumberedReadsAreSettings, ReadsAreSettings}
-use Rattle.board_api.specs.OwnSteps.{Has}
-use Rattle.board_api.specs.StepWords.{openings_in}
-use Rattle.board_api.proofs.AddedSteps.{quiet_steps_stay}
-use Rattle.hop_delivery.specs.Orders.Runs.{settings_of_visit}
-use Rattle.hop_delivery.specs.Orders.Turns.{visit_with}
-use Rattle.hop_delivery.specs.Closings.TurnReads.{HasRead}
+use Rattle.hop_rule.specs.{Owns.visit_in, Owns.visits_of, declared.step.GateStep.TheVariants.Read}
+use Rattle.board_api.{proofs.AddedSteps.quiet_steps_stay, specs.Laws.Heads.NumberedReadsAreSettings}
+use Rattle.board_api.specs.{Laws.Heads.ReadsAreSettings, OwnSteps.Has, StepWords.openings_in}
 use Rattle.hop_delivery.proofs.Names.{◌≡◌, ℕ, zero, suc, inl, inr, List, [], ◌∷◌, ◌++◌, length}
 use Rattle.hop_delivery.proofs.Names.{Some, None, sym, refl, ap, ◌∙◌, subst, arith, dite}
 use Rattle.hop_delivery.proofs.Names.{ℕ_discrete, StepBy, steps_of, if_same, if_other, nth_step}
 use Rattle.hop_delivery.proofs.Names.{past, closer, BoardSizes, BoardStep, Gate, Entered, Left}
 use Rattle.hop_delivery.proofs.Names.{none-some, some-is, BoardLists, Turn, Explained, turn_put}
-use Rattle.hop_delivery.proofs.Names.{TurnsKnowSettings}
+use Rattle.hop_delivery.{proofs.Names.TurnsKnowSettings, specs.Closings.TurnReads.HasRead}
+use Rattle.hop_delivery.specs.Orders.{Runs.settings_of_visit, Turns.visit_with}
 
 -- ---- a member splits its list
 
@@ -38,8 +32,7 @@ quiet-back front back d none all =
     let here : visits_of (d ∷ back) ≡ visits_of back =
     ap (λ o. cons_option o (visits_of back)) none in
     no-more (visits_of front) (visits_of back)
-    (ap (λ gs. visits_of front ++ gs) (sym here) ∙ (sym parts ∙ all))
-  where
+    (ap (λ gs. visits_of front ++ gs) (sym here) ∙ (sym parts ∙ all)) where
     no-more : {X : Type 0} (xs ys : List X) → xs ++ ys ≡ [] → ys ≡ []
     no-more [] ys e = e
     no-more (x ∷ xs) ys e = let n = ap length e in absurd (omega arith)
@@ -57,23 +50,19 @@ module _ (about : BoardSizes) (own : ℕ → List BoardStep) (lists : BoardLists
       let t = split-at u.early reading has in
       let begun : List BoardStep = Gate (Entered u.word) ∷ older in
       let back : List BoardStep = t.1 ++ begun in
-      let front : List BoardStep =
-      newer ++ Gate Left ∷ (late ++ (turn_put u ∷ t.0)) in
+      let front : List BoardStep = newer ++ Gate Left ∷ (late ++ (turn_put u ∷ t.0)) in
       let whole : own q ≡ front ++ reading ∷ back = list ∙ joined t.0 t.1 t.2 in
       let k : ℕ = length back in
       let does : Has (own q) k reading =
       ap (λ ds. nth_step ds k) whole ∙ nth-between front reading back in
-      let before : past k (own q) ≡ back =
-      ap (past k) whole ∙ past-between front reading back in
+      let before : past k (own q) ≡ back = ap (past k) whole ∙ past-between front reading back in
       let stays = quiet_steps_stay t.1 begun
       (quiet-back t.0 t.1 reading refl (ap visits_of (sym t.2) ∙ quiet)) in
       law.in_visit q k word value does (ap (λ ds. visit (gate_steps ds)) before ∙ stays.place)
       ∙ ap (λ n. own_settings about (opened n (gate_steps (own (closer about)))) word)
-      (ap (λ ds. visit_number (gate_steps ds)) before ∙ stays.number)
-    where
+      (ap (λ ds. visit_number (gate_steps ds)) before ∙ stays.number) where
       joined : (a b : List BoardStep) → u.early ≡ a ++ reading ∷ b
-          → newer ++ visit_with u late older
-          ≡ (newer ++ Gate Left ∷ (late ++ (turn_put u ∷ a)))
+          → newer ++ visit_with u late older ≡ (newer ++ Gate Left ∷ (late ++ (turn_put u ∷ a)))
           ++ reading ∷ (b ++ Gate (Entered u.word) ∷ older)
       joined a b e =
           let begun : List BoardStep = Gate (Entered u.word) ∷ older in
@@ -99,8 +88,7 @@ module _ (about : BoardSizes) (own : ℕ → List BoardStep) (lists : BoardLists
       → HasRead u word value → value ≡ settings_of_visit about own u.word word
   turn_among front ds [] list explained p i u at has = none-some u at
   turn_among front ds (t ∷ ts) list (newer, late, older, is, no_puts, quiet_late, quiet, rest) p i u
-      at has =
-      let whole : own q ≡ (front ++ newer) ++ visit_with t.step late older =
+      at has = let whole : own q ≡ (front ++ newer) ++ visit_with t.step late older =
       list ∙ (ap (λ z. front ++ z) is
       ∙ sym (append_assoc front newer (visit_with t.step late older))) in
       let before : own q ≡ ((front ++ newer) ++ visit_with t.step late []) ++ older =
@@ -110,22 +98,17 @@ module _ (about : BoardSizes) (own : ℕ → List BoardStep) (lists : BoardLists
       let further : nth_step others i ≡ Some u → value ≡ settings_of_visit about own u.word word =
       λ there. turn_among ((front ++ newer) ++ visit_with t.step late []) older ts before rest p i u
       there has in
-      dite (ℕ_discrete t.by p)
-      (λ mine.
+      dite (ℕ_discrete t.by p) (λ mine.
       let here : nth_step (t.step ∷ others) i ≡ Some u =
       ap (λ z. nth_step z i) (sym (if_same t.by p (t.step ∷ others) others mine)) ∙ at in
-      dite (ℕ_discrete (length others) i)
-      (λ e.
-      let same : t.step ≡ u =
-      some-is t.step u
+      dite (ℕ_discrete (length others) i) (λ e.
+      let same : t.step ≡ u = some-is t.step u
       (sym (if_same (length others) i (Some t.step) (nth_step others i) e) ∙ here) in
       subst (λ (z : Turn). value ≡ settings_of_visit about own z.word word) same
       (turn_read t.step (front ++ newer) late older whole quiet.visits
-      (subst (λ (z : Turn). HasRead z word value) (sym same) has)))
-      (λ ne.
+      (subst (λ (z : Turn). HasRead z word value) (sym same) has))) (λ ne.
       further (sym (if_other (length others) i (Some t.step) (nth_step others i) ne) ∙ here)))
-      (λ other.
-      further
+      (λ other. further
       (ap (λ z. nth_step z i) (sym (if_other t.by p (t.step ∷ others) others other)) ∙ at))
 
 pub turns_know : (about : BoardSizes) (own : ℕ → List BoardStep) (lists : BoardLists)

@@ -1,33 +1,20 @@
 -- An execution that meets the premises gives an account in the moments of the order.
-use Rattle.std.proofs.Common.{length-append}
-use Rattle.std.specs.Prelude.{All}
-use Rattle.std.specs.List.{Contains}
-use Rattle.std.proofs.lemmas.List.{take-append-drop, length-drop}
-use Rattle.std.proofs.lemmas.List.Elements.{All-head, All-tail}
+use Rattle.std.proofs.{Common.length-append, lemmas.List.take-append-drop}
+use Rattle.std.proofs.lemmas.List.{length-drop, Elements.All-head, Elements.All-tail}
 use Rattle.std.proofs.lemmas.Option.{get_or_from_slice_get, slice_get_within}
+use Rattle.std.specs.{List.Contains, Prelude.All}
 use Rattle.hop_model.specs.Hop.{nobody}
 use Rattle.linearization.specs.Orders.{step_by}
-use Rattle.hop_rule.specs.Boards.{gate_steps}
-use Rattle.hop_rule.specs.Emptied.{WasEmptied}
-use Rattle.hop_rule.specs.Gates as gates
-use Rattle.hop_rule.specs.Moments.{Did, moment_of}
+use Rattle.hop_rule.proofs.{Boards.lawful_past, Lists.get-inside, Moments.nth-last}
+use Rattle.hop_rule.proofs.Moments.{nth-old, past-all, past-old, nth-first, nth-member, past-next}
+use Rattle.hop_rule.proofs.{Numbers.rise, Numbers.none_between, Openings.settings_are_the_closers}
+use Rattle.hop_rule.proofs.{Openings.visits_show_settings, OwnMoments.past_own}
+use Rattle.hop_rule.proofs.Parts.{at_moment, from_moment, moments_rise}
+use Rattle.hop_rule.specs.{Boards.gate_steps, Emptied.WasEmptied, Moments.Did, Moments.moment_of}
 use Rattle.hop_rule.specs.declared.step.BoardStep.TheVariants.{Counted, LaneOut, LaneIn, OutCounted}
 use Rattle.hop_rule.specs.declared.step.GateStep.{GateStep}
 use Rattle.hop_rule.specs.declared.step.GateStep.TheVariants.{Turned, Shut, NotShut, Opened, Read}
 use Rattle.hop_rule.specs.declared.step.LaneStep.TheVariants.{Given}
-use Rattle.hop_rule.proofs.Lists.{get-inside}
-use Rattle.hop_rule.proofs.Moments.{nth-last, nth-old, past-all, past-old, nth-first, nth-member}
-use Rattle.hop_rule.proofs.Moments.{past-next}
-use Rattle.hop_rule.proofs.Numbers.{rise, none_between}
-use Rattle.hop_rule.proofs.Openings.{settings_are_the_closers, visits_show_settings}
-use Rattle.hop_rule.proofs.Boards.{lawful_past}
-use Rattle.hop_rule.proofs.OwnMoments.{past_own}
-use Rattle.hop_rule.proofs.Parts.{at_moment, from_moment, moments_rise}
-use Rattle.hop_delivery.specs.Orders.Premises.{MeetsPremises, WasFoundEmpty, FindsEmpty}
-use Rattle.hop_delivery.specs.Orders.Premises.{AllFindEmpty}
-use Rattle.hop_delivery.specs.Orders.Premises.{GoesRight}
-use Rattle.hop_delivery.specs.Orders.Runs as executions
-use Rattle.hop_delivery.specs.Orders.Runs.{word_of}
 use Rattle.hop_delivery.proofs.Names.{◌≡◌, ℕ, zero, suc, ◌+◌, ◌-◌, ◌%◌, ◌^◌, ◌<◌, ◌≤◌, ◌==◌, true}
 use Rattle.hop_delivery.proofs.Names.{List, [], ◌∷◌, ◌++◌, Option, Some, length, take, drop}
 use Rattle.hop_delivery.proofs.Names.{if◌then◌else◌, sym, refl, ap, ◌∙◌, subst, arith, inl, inr}
@@ -41,6 +28,10 @@ use Rattle.hop_delivery.proofs.Names.{Execution, Steering, turns_of, Turn, turn_
 use Rattle.hop_delivery.proofs.Orders.AccountLemmas.{Account, IsAccount, IsRuled, HasVisit}
 use Rattle.hop_delivery.proofs.Orders.AccountLemmas.{WasLoaded, chosen}
 use Rattle.hop_delivery.proofs.Orders.TurnLemmas.{Places, VisitAt, turns_have_places, nth-split}
+use Rattle.hop_delivery.specs.Orders.Premises.{MeetsPremises, WasFoundEmpty, FindsEmpty}
+use Rattle.hop_delivery.specs.Orders.{Premises.AllFindEmpty, Premises.GoesRight, Runs.word_of}
+use Rattle.hop_rule.specs.Gates as gates
+use Rattle.hop_delivery.specs.Orders.Runs as executions
 
 -- the last change of a size, by the sizes up to a choice
 since-same : (f g : ℕ → ℕ) (i : ℕ) → ((j : ℕ) → j ≤ i → f j ≡ g j)
@@ -65,8 +56,7 @@ module _ {A : Type 0} where
   nth-all P [] j x all at = none-some x at
   nth-all P (y ∷ ys) j x all at = elim (nth-first y ys j x at) [
     | inl old ↦ nth-all P ys j x (All-tail P y ys all) old
-    | inr new ↦ subst P new.0 (All-head P y ys all)
-  ]
+    | inr new ↦ subst P new.0 (All-head P y ys all) ]
 
   -- a list from its k-th member on has the same numbers
   nth-past : (xs : List A) (k j : ℕ) → j < length (past k xs) → nth_step xs j ≡ nth_step
@@ -81,8 +71,7 @@ module _ {A : Type 0} where
       → nth_step xs k ≡ Some x
   nth-next xs k x l is =
       let n = length-past xs k (omega arith) in let m = length-past xs (suc k) (omega arith) in
-      nth-past xs (suc k) k (omega arith)
-      ∙ (ap (λ zs. nth_step zs k) is
+      nth-past xs (suc k) k (omega arith) ∙ (ap (λ zs. nth_step zs k) is
       ∙ (ap (nth_step (x ∷ past k xs)) (sym n) ∙ nth-last x (past k xs)))
 
 -- the numbers of the first part of a list come after those of the second
@@ -94,8 +83,7 @@ nth-new (x ∷ xs) ys j d at = let n = length-append xs ys in elim (nth-first x 
       (Some x) (nth_step (xs ++ ys) (length ys + j)) (λ e. absurd (omega arith))
       ∙ nth-new xs ys j d old)
   | inr new ↦ (let k = new.1 in if_same (length (xs ++ ys)) (length ys + j) (Some x)
-      (nth_step (xs ++ ys) (length ys + j)) (omega arith) ∙ ap Some new.0)
-]
+      (nth_step (xs ++ ys) (length ys + j)) (omega arith) ∙ ap Some new.0) ]
 
 -- a list with an opening
 opened_has : (ds : List BoardStep) (j : ℕ) → nth_step ds j ≡ Some (Gate Opened) → 0 < gates.openings
@@ -104,9 +92,7 @@ opened_has [] j at = none-some (Gate Opened) at
 opened_has (d ∷ ds) j at = elim (nth-first d ds j (Gate Opened) at) [
   | inl old ↦ (let more = opened_has ds j old in by_step d more)
   | inr new ↦ subst (λ (x : BoardStep). 0 < gates.openings (gate_steps (x ∷ ds))) (sym new.0)
-      (omega arith)
-]
-  where
+      (omega arith) ] where
     by_gate : (s : GateStep) → 0 < gates.openings (gate_steps ds) → 0 < gates.openings_after s
         (gates.openings (gate_steps ds))
     by_gate Opened more = omega arith
@@ -161,8 +147,7 @@ module _ (about : BoardSizes) (order : List (StepBy BoardStep)) (k l w v : ℕ)
   of_own : (j : ℕ) (d : BoardStep) → nth_step before j ≡ Some d → (j < k) × Did order C j d
   of_own j d at =
       let inside = nth-inside before j d at in let m = in_list in let n = length-past closers_own k
-      (omega arith) in
-      (omega arith, nth-past closers_own k j inside ∙ at)
+      (omega arith) in (omega arith, nth-past closers_own k j inside ∙ at)
 
   abbrev since_shut : List BoardStep
   since_shut = Gate (Shut f.word) ∷ f.older
@@ -195,8 +180,7 @@ module _ (about : BoardSizes) (order : List (StepBy BoardStep)) (k l w v : ℕ)
   unfolding weighed_at
   weighed_did =
       let n = sizes in
-      of_own weighed_at (Weighed l f.head)
-      (in_since (length f.first) (Weighed l f.head)
+      of_own weighed_at (Weighed l f.head) (in_since (length f.first) (Weighed l f.head)
       (ap (λ zs. nth_step zs (length f.first)) f.loads
       ∙ (nth-old f.after (Counted l f.tail ∷ from_weighed) (length f.first) (omega arith)
       ∙ (nth-old (Counted l f.tail ∷ []) from_weighed (length f.first) (omega arith)
@@ -223,16 +207,12 @@ module _ (about : BoardSizes) (order : List (StepBy BoardStep)) (k l w v : ℕ)
       elim (nth-split f.since since_shut j (Gate Opened) here) [
         | inl old ↦ (let i = nth-inside since_shut j (Gate Opened) old in absurd (omega arith))
         | inr new ↦ (let some = opened_has f.since new.0 new.1 in let none = f.stays in
-            absurd (omega arith))
-      ]
+            absurd (omega arith)) ]
 
   was_emptied : WasEmptied about order (moment_of C order k) l
   was_emptied = record {
-    shut = moment_of C order (length f.older);
-    weighed = moment_of C order weighed_at;
-    counted = moment_of C order counted_at;
-    word = f.word;
-    head = f.head;
+    shut = moment_of C order (length f.older); weighed = moment_of C order weighed_at;
+    counted = moment_of C order counted_at; word = f.word; head = f.head;
     tail = f.tail;
     after_shut = rise about order C (length f.older) weighed_at (Weighed l f.head) later.0
         weighed_did.1;
@@ -244,8 +224,7 @@ module _ (about : BoardSizes) (order : List (StepBy BoardStep)) (k l w v : ℕ)
     counts = at_moment C order counted_at (Counted l f.tail) counted_did.1;
     equal = f.equal;
     stays = λ m from to is. none_between about order C (length f.older) k m (Gate (Shut f.word))
-        (Gate (Set w v)) (Gate Opened) shut_did.1 did not_opened from to is;
-  }
+        (Gate (Set w v)) (Gate Opened) shut_did.1 did not_opened from to is; }
 
 -- ---- the account
 
@@ -273,15 +252,9 @@ module _ (about : BoardSizes) (order : List (StepBy BoardStep)) (t : Execution) 
   put_at p i = moment_of (t.seat p) order ((places_of (t.seat p)).put (turn_at p i))
 
   abbrev pub account : Account
-  account =
-      record {
-        arrivals = t.arrivals;
-        choices = t.choices;
-        placed = λ p. length (turns_of t p);
-        seat = t.seat;
-        entered = entered_at;
-        put = put_at;
-      }
+  account = record {
+        arrivals = t.arrivals; choices = t.choices; placed = λ p. length (turns_of t p);
+        seat = t.seat; entered = entered_at; put = put_at; }
 
   module _ (p i : ℕ) (u : Turn) (at : nth_step (turns_of t p) i ≡ Some u) where
     abbrev q : ℕ
@@ -315,22 +288,17 @@ module _ (about : BoardSizes) (order : List (StepBy BoardStep)) (t : Execution) 
     has_visit : HasVisit about order account r p i
     unfolding entered_at put_at
     has_visit = record {
-      word = u.word;
-      enters = enters_at;
-      hash = u.hash;
-      answer = u.answer;
+      word = u.word; enters = enters_at; hash = u.hash; answer = u.answer;
       puts = subst (λ (c : Chosen). IsPut about order (put_at p i) q c.choice.lane c.id u.hash
           u.answer) (sym chosen_is) puts_at;
       after = rise about order q (places.entered (turn_at p i)) (places.put (turn_at p i))
           (turn_put u) visit.after visit.puts;
       stays = λ m from to is. none_between about order q (places.entered (turn_at p i))
           (places.put (turn_at p i)) m (Gate (Entered u.word)) (turn_put u) (Gate Left) visit.enters
-          visit.puts visit.stays from to is;
-    }
+          visit.puts visit.stays from to is; }
 
     settings_is : settings about (past (entered_at p i) order) ≡ executions.settings_at about own
-        acc t
-        r p i
+        acc t r p i
     settings_is = visits_show_settings about order fit lawful (entered_at p i) q u.word enters_at
         ∙ ap (λ o. executions.settings_of_visit about own (word_of o)) (sym at)
 
@@ -338,16 +306,12 @@ module _ (about : BoardSizes) (order : List (StepBy BoardStep)) (t : Execution) 
     was_loaded : (l w number : ℕ) → Contains u.early (Weighed l w) → w % 2 ^ 32 ≡ number
         → WasLoaded about order account r p i l number
     unfolding put_at
-    was_loaded l w number has shows =
-        let e = visit.early (length u.early - suc has.0) (Weighed l w)
+    was_loaded l w number has shows = let e = visit.early (length u.early - suc has.0) (Weighed l w)
         (nth-member u.early has.0 (Weighed l w) has.1 ∙ ap Some has.2) in
         record {
-          moment = moment_of q order e.0;
-          word = w;
+          moment = moment_of q order e.0; word = w;
           before = rise about order q e.0 (places.put (turn_at p i)) (turn_put u) e.2 visit.puts;
-          weighs = at_moment q order e.0 (Weighed l w) e.3;
-          shows = shows;
-        }
+          weighs = at_moment q order e.0 (Weighed l w) e.3; shows = shows; }
 
   turn_of : (p i : ℕ) → i < length (turns_of t p) → (u : Turn)
       × (nth_step (turns_of t p) i ≡ Some u)
@@ -364,13 +328,10 @@ module _ (about : BoardSizes) (order : List (StepBy BoardStep)) (t : Execution) 
       (λ j. r.shape (settings about (past (entered_at p j) order)) p) i
       (λ j le. let v = turn_of p j (omega arith) in ap (λ z. r.shape z p)
       (sym (settings_is p j v.0 v.1))) in
-      let c = chosen_is p i u.0 u.1 in
-      by_paths u.0 u.1 b (sym s) since (sym c)
-    where
+      let c = chosen_is p i u.0 u.1 in by_paths u.0 u.1 b (sym s) since (sym c) where
       by_paths : (u : Turn) → nth_step (turns_of t p) i ≡ Some u
           → (b : executions.IsByRule about own acc t r p i u) → executions.settings_at about own acc
-          t r p
-          i ≡ settings about (past (entered_at p i) order)
+          t r p i ≡ settings about (past (entered_at p i) order)
           → since_resize (executions.shape_at about own acc t r p) i ≡ since_resize
           (λ j. r.shape (settings about (past (entered_at p j) order)) p) i
           → u.chosen ≡ chosen account p i → IsRuled about order account r p i
@@ -389,12 +350,10 @@ module _ (about : BoardSizes) (order : List (StepBy BoardStep)) (t : Execution) 
             Some
             l = ap (λ m. current_lane (of_class k (drop m (take i (t.choices p))))) n ∙ lane in
             let w = b.loaded k l same_class same_lane (ap (λ (z : Chosen). z.choice.head) c ∙ head)
-            in
-            was_loaded p i u at l w.0 b.head w.1 w.2);
+            in was_loaded p i u at l w.0 b.head w.1 w.2);
         goal_online = subst (λ (z : (ℕ → ℕ) × Chosen). r.online z.0
             (executions.goal_of r z.0 p (r.flow z.1.id) (r.class (r.shape z.0 p) (r.flow z.1.id))
-            z.1.choice.want) ≡ true) (λ j. (s j, c j)) b.goal_online;
-      }
+            z.1.choice.want) ≡ true) (λ j. (s j, c j)) b.goal_online; }
 
   all_puts_are : (n q l id : ℕ) (hash : Option ℕ) (answer : Put) → IsPut about order n q l id hash
       answer → (p : ℕ) × (i : ℕ) × (i < length (turns_of t p)) × (put_at p i ≡ n)
@@ -411,14 +370,11 @@ module _ (about : BoardSizes) (order : List (StepBy BoardStep)) (t : Execution) 
       let inside : i.0 < length (turns_of t p) =
       subst (λ (z : ℕ). i.0 < length (steps_of p (t.turns z))) (sym seat)
       (nth-inside (steps_of p (t.turns q)) i.0 e.0.step i.1) in (
-        p,
-        i.0,
-        inside,
+        p, i.0, inside,
         (λ j. moment_of (seat j) order
             ((places_of (seat j)).put (moment_of p (t.turns (seat j)) i.0)))
             ∙ (ap (λ z. moment_of q order ((places_of q).put z)) i.2
-            ∙ (ap (moment_of q order) a.2 ∙ f.2)),
-      )
+            ∙ (ap (moment_of q order) a.2 ∙ f.2)))
 
   in_order_are : (p i : ℕ) → suc i < length (turns_of t p) → put_at p i < entered_at p (suc i)
   unfolding put_at entered_at
@@ -453,20 +409,14 @@ module _ (about : BoardSizes) (order : List (StepBy BoardStep)) (t : Execution) 
         good.once p q i j g.0 g.1 g.2);
     arrived = λ p i l. (let u = turn_of p i l in good.arrived p i u.0 u.1
         ∙ ap (λ (z : Chosen). Some z.id) (sym (chosen_is p i u.0 u.1)));
-    few = few_are;
-    visits = λ p i l. (let u = turn_of p i l in has_visit p i u.0 u.1);
-    in_order = in_order_are;
-    all_puts = all_puts_are;
+    few = few_are; visits = λ p i l. (let u = turn_of p i l in has_visit p i u.0 u.1);
+    in_order = in_order_are; all_puts = all_puts_are;
     given = λ n q o from id place is.
         (let f = from_moment q order n (Lane (Given o from id place)) is in nth-all (GoesRight r)
         (own q) f.0 (Lane (Given o from id place)) (good.given q) f.1);
-    by_rule = ruled;
-    emptied = emptied_are;
-  }
-    where
+    by_rule = ruled; emptied = emptied_are; } where
       few_are : (p : ℕ) → length (turns_of t p) ≤ length (t.choices p)
-      few_are p = by_count (length (turns_of t p)) refl
-        where
+      few_are p = by_count (length (turns_of t p)) refl where
           by_count : (n : ℕ) → length (turns_of t p) ≡ n → n ≤ length (t.choices p)
           by_count zero e = omega arith
           by_count (suc n) e = let u = turn_of p n (omega arith) in let l = slice_get_within

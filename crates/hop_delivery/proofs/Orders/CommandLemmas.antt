@@ -1,43 +1,27 @@
 -- The lanes that have to be empty for the settings of a command are among those that it affects.
-use Rattle.std.specs.Prelude.{◌==◌, ◌&&◌, ◌||◌, if◌then◌else◌}
-use Rattle.std.proofs.lemmas.Bool.{lt-ltb}
+use Rattle.std.proofs.lemmas.Bool.{eqb-true, lt-ltb, not-true, or_cases, or_parts}
 use Rattle.std.proofs.lemmas.List.Elements.{All-nil, All-cons}
-use Rattle.steer_base.specs.Commands.{is_affected}
-use Rattle.steer_base.specs.Sets.{with_cpu, without_cpu}
-use Rattle.steer_base.specs.declared.command.Command.{Command}
-use Rattle.steer_base.specs.declared.command.Command.TheVariants.{Mask, Flows, Sock, Offline}
-use Rattle.steer_base.specs.declared.command.Command.TheVariants.{Online, XCpus, XQueues, Reta}
-use Rattle.steer_base.specs.declared.command.Command.TheVariants.{Stand, Expire}
-use Rattle.steer_base.specs.declared.cpu_mask.CpuMask.{CpuMask}
+use Rattle.std.specs.Prelude.{◌==◌, ◌&&◌, ◌||◌, if◌then◌else◌}
 use Rattle.steer_base.proofs.MasksLemmas.{has-with_cpu, has-without_cpu}
-use Rattle.hop_delivery.specs.Orders.Commands.{SettingChange, made, received_sets, sent_sets}
-use Rattle.hop_delivery.specs.Orders.Commands.{NamesCpu}
-use Rattle.hop_delivery.specs.Orders.Commands.{AreAffected}
-use Rattle.hop_delivery.specs.Orders.Commands.{ReceivedCommandsEmpty, SentCommandsEmpty}
-use Rattle.hop_delivery.specs.Orders.ReceiveSettings.{came_on, empty_for_mask, must_be_empty}
-use Rattle.hop_delivery.specs.Orders.ReceiveSettings.{online}
-use Rattle.hop_delivery.specs.Orders.TransmitSettings.{transmit_steering}
+use Rattle.steer_base.specs.{Commands.is_affected, Sets.with_cpu, Sets.without_cpu}
+use Rattle.steer_base.specs.declared.command.Command.{Command, TheVariants.Mask, TheVariants.Flows}
+use Rattle.steer_base.specs.declared.command.Command.TheVariants.{Sock, Offline, Online, XCpus}
+use Rattle.steer_base.specs.declared.command.Command.TheVariants.{XQueues, Reta, Stand, Expire}
+use Rattle.steer_base.specs.declared.cpu_mask.CpuMask.{CpuMask}
 use Rattle.hop_delivery.proofs.Names.{◌≡◌, ◌⊎◌, inl, inr, ℕ, zero, suc, ◌+◌, ◌<◌, Bool, true, false}
 use Rattle.hop_delivery.proofs.Names.{not, List, [], ◌∷◌, refl, sym, ap, ◌∙◌, nat_lt, list_any}
 use Rattle.hop_delivery.proofs.Names.{range_with_len, cases_Bool, true≢false, eq-eqb, has, Queues}
-use Rattle.hop_delivery.proofs.Names.{online_word, receive_steering}
+use Rattle.hop_delivery.proofs.{Names.online_word, Names.receive_steering, Orders.FilterLemmas.both}
+use Rattle.hop_delivery.specs.Orders.Commands.{SettingChange, made, received_sets, sent_sets}
+use Rattle.hop_delivery.specs.Orders.Commands.{NamesCpu, AreAffected, ReceivedCommandsEmpty}
+use Rattle.hop_delivery.specs.Orders.{Commands.SentCommandsEmpty, ReceiveSettings.came_on}
+use Rattle.hop_delivery.specs.Orders.ReceiveSettings.{empty_for_mask, must_be_empty, online}
+use Rattle.hop_delivery.specs.Orders.TransmitSettings.{transmit_steering}
 
 -- of one setting
 one : (P : SettingChange → Type 0) (m : SettingChange) → P m → Rattle.std.specs.Prelude.All P
     (m ∷ [])
 one P m h = All-cons P m [] h (All-nil P)
-
-either : (a b : Bool) → (a || b) ≡ true → (a ≡ true) ⊎ (b ≡ true)
-either true b e = inl refl
-either false b e = inr e
-
-both : (a b : Bool) → (a && b) ≡ true → (a ≡ true) × (b ≡ true)
-both true b e = (refl, e)
-both false b e = absurd (true≢false (sym e))
-
-neither : (a : Bool) → not a ≡ true → a ≡ false
-neither true e = absurd (true≢false (sym e))
-neither false e = refl
 
 -- a test that no number of a range passes
 none_of : (test : ℕ → Bool) (a n : ℕ) → ((c : ℕ) → test c ≡ false)
@@ -51,20 +35,16 @@ module _ (q : Queues) (s : ℕ → ℕ) (cpu l : ℕ) (small : cpu < 32) where
 
   -- for a processor that goes offline: itself
   off_empty : empty_for_mask q old (without_cpu old cpu) l ≡ true → (l == cpu) ≡ true
-  off_empty e = elim (either (has old l && not (has (without_cpu old cpu) l)) _ e) [
+  off_empty e = elim (or_cases (has old l && not (has (without_cpu old cpu) l)) _ e) [
     | inl gone ↦ (
         let g = both (has old l) (not (has (without_cpu old cpu) l)) gone in
         let out : (has old l && not (cpu == l)) ≡ false = sym (has-without_cpu old cpu l small)
-        ∙ neither (has (without_cpu old cpu) l) g.1 in
-        by_test (has old l) (cpu == l) refl g.0 out)
+        ∙ not-true (has (without_cpu old cpu) l) g.1 in by_test (has old l) (cpu == l) refl g.0 out)
     | inr came ↦ absurd (true≢false
         (sym (both (list_any (λ home. home == l) q.homes) (came_on q old (without_cpu old cpu))
-        came).1 ∙ none_of _ 0 32 none_came))
-  ]
-    where
+        came).1 ∙ none_of _ 0 32 none_came)) ] where
       by_test : (a b : Bool) → (cpu == l) ≡ b → a ≡ true → (a && not b) ≡ false → (l == cpu) ≡ true
-      by_test true true is on out = eq-eqb l cpu
-          (sym (Rattle.std.proofs.lemmas.Bool.eqb-true cpu l is))
+      by_test true true is on out = eq-eqb l cpu (sym (eqb-true cpu l is))
       by_test true false is on out = absurd (true≢false out)
       by_test false b is on out = absurd (true≢false (sym on))
 
@@ -79,18 +59,13 @@ module _ (q : Queues) (s : ℕ → ℕ) (cpu l : ℕ) (small : cpu < 32) where
   -- for a processor that comes online: the homes of the queues
   on_empty : empty_for_mask q old (with_cpu old cpu) l ≡ true → list_any (λ home. home == l) q.homes
       ≡ true
-  on_empty e = elim (either (has old l && not (has (with_cpu old cpu) l)) _ e) [
+  on_empty e = elim (or_cases (has old l && not (has (with_cpu old cpu) l)) _ e) [
     | inl gone ↦ (
         let g = both (has old l) (not (has (with_cpu old cpu) l)) gone in
-        absurd (true≢false (sym (g.0) ∙ stays_on (has old l) _ (sym (has-with_cpu old cpu l small)
-        ∙ neither (has (with_cpu old cpu) l) g.1))))
+        absurd (true≢false (sym (g.0) ∙ (or_parts (has old l) _ (sym (has-with_cpu old cpu l small)
+        ∙ not-true (has (with_cpu old cpu) l) g.1)).0)))
     | inr came ↦ (both (list_any (λ home. home == l) q.homes) (came_on q old (with_cpu old cpu))
-        came).0
-  ]
-    where
-      stays_on : (a b : Bool) → (a || b) ≡ false → a ≡ false
-      stays_on true b e = absurd (true≢false e)
-      stays_on false b e = refl
+        came).0 ]
 
 module _ (q : Queues) (s : ℕ → ℕ) (cpus txs l : ℕ) (less : l < cpus) where
   abbrev Received : Command → SettingChange → Type 0

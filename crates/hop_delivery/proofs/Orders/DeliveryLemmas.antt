@@ -1,21 +1,15 @@
 -- Delivery in order, from the premises.
-use Rattle.std.proofs.Common.{◌||◌, ◌&&◌}
-use Rattle.std.proofs.lemmas.Bool.{eqb-true, not-true}
+use Rattle.std.proofs.{Common.◌||◌, Common.◌&&◌, lemmas.Bool.eqb-true, lemmas.Bool.not-true}
 use Rattle.steer_base.specs.Orders.{was_dropped, InOrder}
-use Rattle.steer_base.specs.declared.put.DropCause.{DropCause}
-use Rattle.steer_base.specs.declared.put.LaneDrop.{LaneDrop}
+use Rattle.steer_base.specs.declared.put.{DropCause.DropCause, LaneDrop.LaneDrop}
 use Rattle.backlog.specs.Puts.{after_put, put_by}
-use Rattle.hop_rule.specs.Boards.{drops, drops_at, lanes_of, out}
-use Rattle.hop_rule.specs.Deliveries.{Delivery, delivery, delivered_from}
-use Rattle.hop_rule.specs.Lanes as lanes
-use Rattle.hop_rule.specs.PutLaws.{lane_then}
 use Rattle.hop_rule.proofs.Boards.{parts}
 use Rattle.hop_rule.proofs.Deliveries.{Each, nth-each, ids_at, facts, stands, rises, same_lane}
-use Rattle.hop_rule.proofs.Fronts.{front-get, get-pushed}
-use Rattle.hop_rule.proofs.Heads.{passed_since}
-use Rattle.hop_rule.proofs.Members.{each_given, out_given}
-use Rattle.hop_rule.proofs.Puts.{puts_right, was_put, was_dropped as drop_was_put}
-use Rattle.hop_delivery.specs.Orders.DeliveryLaw.{DeliversInOrder}
+use Rattle.hop_rule.proofs.{Fronts.front-get, Fronts.get-pushed, Heads.passed_since}
+use Rattle.hop_rule.proofs.{Members.each_given, Members.out_given, Puts.puts_right, Puts.was_put}
+use Rattle.hop_rule.{proofs.Puts.was_dropped as drop_was_put, specs.Boards.drops}
+use Rattle.hop_rule.specs.{Boards.drops_at, Boards.lanes_of, Boards.out, Deliveries.Delivery}
+use Rattle.hop_rule.specs.{Deliveries.delivery, Deliveries.delivered_from, PutLaws.lane_then}
 use Rattle.hop_delivery.proofs.Names.{◌≡◌, inl, inr, ℕ, zero, suc, ◌-◌, ◌<◌, ◌==◌, Bool, true}
 use Rattle.hop_delivery.proofs.Names.{false, not, List, [], ◌∷◌, ◌++◌, length, sym, refl, ap, ◌∙◌}
 use Rattle.hop_delivery.proofs.Names.{subst, arith, Option, Some, None, slice_get, list_any}
@@ -23,14 +17,15 @@ use Rattle.hop_delivery.proofs.Names.{cases_Bool, true≢false, eq-eqb, lane_dro
 use Rattle.hop_delivery.proofs.Names.{Chosen, Put, StepBy, IsLawful, accepted, nth_step, IsPut}
 use Rattle.hop_delivery.proofs.Names.{FitSizes, BoardSizes, BoardStep, LaneStep, some-is, none-some}
 use Rattle.hop_delivery.proofs.Names.{step-inside, Steering, IsSteering}
-use Rattle.hop_delivery.proofs.Orders.AccountedLemmas.{account, is_account}
 use Rattle.hop_delivery.proofs.Orders.AccountLemmas.{Account, IsAccount, At, chosen, lane_chosen}
-use Rattle.hop_delivery.proofs.Orders.FilterLemmas.{any-of, any-at, any-range, range-any}
-use Rattle.hop_delivery.proofs.Orders.FilterLemmas.{prefix_of_parts}
-use Rattle.hop_delivery.proofs.Orders.PlaceLemmas.{place-get, put_is, once, at_put, put_at, own_put}
-use Rattle.hop_delivery.proofs.Orders.PlaceLemmas.{same_put}
-use Rattle.hop_delivery.proofs.Orders.PlaceLemmas.{found_at, in_range, rises as places_rise}
-use Rattle.hop_delivery.proofs.Orders.WalkLemmas.{passed}
+use Rattle.hop_delivery.proofs.Orders.AccountLemmas.{place-get, put_is, once, at_put, put_at}
+use Rattle.hop_delivery.proofs.Orders.AccountLemmas.{own_put, same_put, found_at, in_range}
+use Rattle.hop_delivery.proofs.Orders.AccountLemmas.{rises as places_rise}
+use Rattle.hop_delivery.proofs.Orders.AccountedLemmas.{account, is_account}
+use Rattle.hop_delivery.proofs.Orders.FilterLemmas.{any-at, any-member, any-range, both, range-any}
+use Rattle.hop_delivery.proofs.Orders.{FilterLemmas.prefix_of_parts, WalkLemmas.passed}
+use Rattle.hop_delivery.specs.Orders.DeliveryLaw.{DeliversInOrder}
+use Rattle.hop_rule.specs.Lanes as lanes
 
 module _ (about : BoardSizes) (order : List (StepBy BoardStep)) (fit : FitSizes about)
     (lawful : IsLawful about order) (a : Account) (r : Steering) (steers : IsSteering about.lanes r)
@@ -59,15 +54,10 @@ module _ (about : BoardSizes) (order : List (StepBy BoardStep)) (fit : FitSizes 
   lawful_lanes : lanes.AreLawful about ls
   lawful_lanes = (parts about order lawful).0
 
-  both : (x y : Bool) → (x && y) ≡ true → (x ≡ true) × (y ≡ true)
-  both true true e = (refl, refl)
-  both true false e = absurd (true≢false (sym e))
-  both false y e = absurd (true≢false (sym e))
-
   came-is : (x : ℕ) → came x ≡ true → (i : ℕ) × (slice_get arrived i ≡ Some x) × (r.flow x ≡ f)
   came-is x e =
       let b = both (list_any (λ y. y == x) arrived) (r.flow x == f) e in
-      let m = any-of (λ y. y == x) arrived b.0 in
+      let m = any-at (λ y. y == x) arrived b.0 in
       (m.0, m.2 ∙ ap Some (eqb-true m.1 x m.3), eqb-true (r.flow x) f b.1)
 
   kept-is : (x : ℕ) → kept x ≡ true → (came x ≡ true) × (fell x ≡ false)
@@ -113,13 +103,9 @@ module _ (about : BoardSizes) (order : List (StepBy BoardStep)) (fit : FitSizes 
       let found : found_at about order lawful a r good u.producer u.index ≡ g.index =
       (λ j. length (lane_then about order (u.moment j) (u.same_lane j)).accepted) ∙ w.found in
       let whole : Delivered u.producer k x = record {
-        index = u.index;
-        placed = u.placed;
-        same = u.same_id;
-        count = g.index;
+        index = u.index; placed = u.placed; same = u.same_id; count = g.index;
         at = subst (λ (z : ℕ). At about order a r u.producer u.index (suc z)) found there;
-        nth_is = ap (λ z. nth_step (delivered_from z ls) g.index) u.same_lane ∙ g.at;
-      } in
+        nth_is = ap (λ z. nth_step (delivered_from z ls) g.index) u.same_lane ∙ g.at; } in
       subst (λ (q : ℕ). Delivered q k x) (sym mine.0) whole
 
   -- ---- dropped packets
@@ -148,8 +134,7 @@ module _ (about : BoardSizes) (order : List (StepBy BoardStep)) (fit : FitSizes 
         b.answer w.answer b_is w_is).2 in
         none-some m.1.cause (sym b.cause
         ∙ ((λ j. lane_drop_cause (lane_then about order (own.0 j) (own.1 j)) (hashes j))
-        ∙ w.cause)))
-  ]
+        ∙ w.cause))) ]
 
   -- a put that a lane dropped for a cause is among its drops
   put_fell : (n q l id : ℕ) (hash : Option ℕ) (answer : Put) (cause : DropCause)
@@ -159,45 +144,27 @@ module _ (about : BoardSizes) (order : List (StepBy BoardStep)) (fit : FitSizes 
       let stands = (puts_right about order lawful n q l id hash answer is).stands in
       let x = lane_then about order n l in
       let d : LaneDrop = record {
-        id = id;
-        accepted = length x.accepted;
-        pulled = x.pulled;
-        cause =
-            cause;
-      } in
+        id = id; accepted = length x.accepted; pulled = x.pulled;
+        cause = cause; } in
       let here : (after_put x id hash).drops ≡ x.drops ++ d ∷ [] =
       ap (λ z. (put_by z x id (Rattle.steer_base.specs.Drops.bucket_of hash)).drops) caused in
       let at : slice_get (after_put x id hash).drops (length x.drops) ≡ Some d =
       ap (λ z. slice_get z (length x.drops)) here ∙ get-pushed x.drops d in
-      any-member (drops_at about order l) (length x.drops) d
+      any-member (λ (d : LaneDrop). d.id == id) (drops_at about order l) (length x.drops) d
       (front-get (after_put x id hash).drops (drops_at about order l) (length x.drops) d
       stands.drops at) (eq-eqb id id refl)
-    where
-      or_true : (b : Bool) → (b || true) ≡ true
-      or_true true = refl
-      or_true false = refl
-
-      any-member : (xs : List LaneDrop) (i : ℕ) (d : LaneDrop) → slice_get xs i ≡ Some d
-          → (d.id == id) ≡ true → list_any (λ (d : LaneDrop). d.id == id) xs ≡ true
-      any-member [] i d at yes_ = none-some d at
-      any-member (y ∷ ys) zero d at yes_ = let e : (y.id == id) ≡ true =
-          ap (λ (z : LaneDrop). z.id == id) (some-is y d at) ∙ yes_ in rw e refl
-      any-member (y ∷ ys) (suc i) d at yes_ = rw (any-member ys i d at yes_) (or_true (y.id == id))
 
   -- a put packet that did not fall was accepted
   accepted_or : (i : ℕ) → i < a.placed p → fell (c i).id ≡ false → (n : ℕ) × IsAt i (suc n)
-  accepted_or i ip kept_ =
-      let v = good.visits p i ip in by_cause v.hash v.answer v.puts
-      (lane_drop_cause (lane_then about order (a.put p i) (lane_chosen a p i)) v.hash) refl
-    where
+  accepted_or i ip kept_ = let v = good.visits p i ip in by_cause v.hash v.answer v.puts
+      (lane_drop_cause (lane_then about order (a.put p i) (lane_chosen a p i)) v.hash) refl where
       by_cause : (hash : Option ℕ) (answer : Put) → IsPut about order (a.put p i) (a.seat p)
           (lane_chosen a p i) (c i).id hash answer → (cause : Option DropCause) → lane_drop_cause
           (lane_then about order (a.put p i) (lane_chosen a p i)) hash ≡ cause → (n : ℕ)
           × IsAt i (suc n)
       by_cause hash answer is None e = (
         found_at about order lawful a r good p i,
-        put_at about order lawful a r good p i (a.seat p) hash answer ip is e,
-      )
+        put_at about order lawful a r good p i (a.seat p) hash answer ip is e)
       by_cause hash answer is (Some cause) e =
           let l : ℕ = lane_chosen a p i in
           let there = put_fell (a.put p i) (a.seat p) l (c i).id hash answer cause is e in
@@ -221,8 +188,7 @@ module _ (about : BoardSizes) (order : List (StepBy BoardStep)) (fit : FitSizes 
   in_out_lane i n k g at flow there low =
       let l : ℕ = lane_chosen a p i in
       let id = ids_at about (delivered_from l ls) (accepted about order l)
-      (facts about ls lawful_lanes l).2
-      n g there in
+      (facts about ls lawful_lanes l).2 n g there in
       let mine : slice_get (accepted about order l) n ≡ Some (c i).id =
       (let k : n ≡ suc n - 1 = omega arith in ap (slice_get (accepted about order l)) k
       ∙ place-get (c i).id (suc n) (accepted about order l) at) in
@@ -230,23 +196,18 @@ module _ (about : BoardSizes) (order : List (StepBy BoardStep)) (fit : FitSizes 
       let to_is : g.to ≡ r.to f = nth-each about (λ (d : Delivery). d.to ≡ r.to (r.flow d.id))
       (delivered_from l ls) (given_to l) n g there ∙ ap r.to (ap r.flow id_is ∙ flow) in
       let lower = low to_is in
-      let s = nth-each about
-      (λ (d : Delivery). (0 < d.place)
+      let s = nth-each about (λ (d : Delivery). (0 < d.place)
       × (slice_get (lanes.out d.to ls) (d.place - 1) ≡ Some d.id)) (delivered_from l ls)
       (stands about ls lawful_lanes l) n g there in
       let pos = s.0 in (
-        g.place - 1,
-        omega arith,
-        ap (λ z. slice_get (lanes.out z ls) (g.place - 1)) (sym to_is)
-            ∙ (s.1 ∙ ap Some id_is),
-      )
+        g.place - 1, omega arith,
+        ap (λ z. slice_get (lanes.out z ls) (g.place - 1)) (sym to_is) ∙ (s.1 ∙ ap Some id_is))
 
   -- an earlier packet of the flow that was accepted stands in the out lane before a later one
   pair : (i j n m k : ℕ) → i < j → j < a.placed p → IsAt i (suc n) → IsAt j (suc m)
       → r.flow (c i).id ≡ f → r.flow (c j).id ≡ f
       → nth_step (delivered_from (lane_chosen a p j) ls) m ≡ Some (delivery (r.to f) (c j).id
-      (suc k))
-      → (l : ℕ) × (l < k) × (slice_get (out about order (r.to f)) l ≡ Some (c i).id)
+      (suc k)) → (l : ℕ) × (l < k) × (slice_get (out about order (r.to f)) l ≡ Some (c i).id)
   pair i j n m k less jp at at' flow flow' there =
       let g : Delivery = delivery (r.to f) (c j).id (suc k) in
       elim (passed about order fit lawful a r steers good p i j (suc n) less jp at
@@ -264,28 +225,17 @@ module _ (about : BoardSizes) (order : List (StepBy BoardStep)) (fit : FitSizes 
             let s = same_lane about (delivered_from (lane_chosen a p j) ls)
             (rises about ls lawful_lanes (lane_chosen a p j)) n m g (omega arith) there in
             in_out_lane i n k s.0 at flow (ap (λ z. nth_step (delivered_from z ls) n) same
-            ∙ s.1) s.2)
-      ]
+            ∙ s.1) s.2) ]
 
   -- ---- the law
 
   came-of : (i x : ℕ) → slice_get arrived i ≡ Some x → r.flow x ≡ f → came x ≡ true
-  came-of i x at flow = let e : list_any (λ y. y == x) arrived ≡ true = any arrived i at in
-      rw (e, eq-eqb (r.flow x) f flow) refl
-    where
-      or_true : (b : Bool) → (b || true) ≡ true
-      or_true true = refl
-      or_true false = refl
-
-      any : (xs : List ℕ) (i : ℕ) → slice_get xs i ≡ Some x → list_any (λ y. y == x) xs ≡ true
-      any [] i e = none-some x e
-      any (y ∷ ys) zero e = rw (eq-eqb y x (some-is y x e)) refl
-      any (y ∷ ys) (suc i) e = rw (any ys i e) (or_true (y == x))
+  came-of i x at flow = rw (any-member (λ y. y == x) arrived i x at (eq-eqb x x refl),
+      eq-eqb (r.flow x) f flow) refl
 
   pub in_order : InOrder came arrived (drops about order) (out about order (r.to f))
   in_order = prefix_of_parts came kept arrived (out about order (r.to f))
-      (λ i j x at at'. (good.once p p i j x at at').1)
-      (λ k l x came_ at at'.
+      (λ i j x at at'. (good.once p p i j x at at').1) (λ k l x came_ at at'.
       let u = delivered k x at came_ in let v = delivered l x at' came_ in
       let same = (once about order lawful a r good p p u.index v.index u.placed v.placed
       (u.same ∙ sym v.same)).1 in
@@ -294,15 +244,12 @@ module _ (about : BoardSizes) (order : List (StepBy BoardStep)) (fit : FitSizes 
       let n : u.count ≡ v.count = omega arith in
       let d : delivery (r.to f) x (suc k) ≡ delivery (r.to f) x (suc l) = some-is _ _
       (sym u.nth_is ∙ ((λ j. nth_step (delivered_from (lane_chosen a p (same j)) ls) (n j))
-      ∙ v.nth_is))
-      in
-      let pl : suc k ≡ suc l = ap (λ (g : Delivery). g.place) d in omega arith)
-      (λ k x at came_.
+      ∙ v.nth_is)) in
+      let pl : suc k ≡ suc l = ap (λ (g : Delivery). g.place) d in omega arith) (λ k x at came_.
       let d = delivered k x at came_ in (
         d.index,
         good.arrived p d.index d.placed ∙ ap Some d.same,
-        rw (came_, ap fell (sym d.same) ∙ not-fell d.index (suc d.count) d.placed d.at) refl,
-      ))
+        rw (came_, ap fell (sym d.same) ∙ not-fell d.index (suc d.count) d.placed d.at) refl))
       (λ i j k x y less at kept_ at' kept' given_.
       let came_x = (kept-is x kept_).0 in
       let d = delivered k y given_ (kept-is y kept').0 in

@@ -1,59 +1,28 @@
 -- The settings of a receive board steer as the law of delivery in order asks.
+use Rattle.std.proofs.lemmas.Bool.{ne_eqb, ltb-true, lt-ltb, and_from, or_left, or_right}
 use Rattle.std.specs.Prelude.{◌==◌, ◌&&◌, ◌||◌}
-use Rattle.std.proofs.lemmas.Bool.{ne_eqb, ltb-true, lt-ltb}
-use Rattle.steer_base.specs.Choices.{rps_choice_of, online_or}
-use Rattle.steer_base.specs.Sets.{those_below, is_empty, at_hash}
-use Rattle.steer_base.specs.declared.cpu_mask.CpuMask.{CpuMask}
-use Rattle.hop_delivery.specs.Orders.ReceiveSettings.{mask, queues, online, rps, came_on}
-use Rattle.hop_delivery.specs.Orders.ReceiveSettings.{empty_for_mask, must_be_empty, GoalsAreOnline}
+use Rattle.steer_base.specs.{Choices.rps_choice_of, Choices.online_or, Sets.those_below}
+use Rattle.steer_base.specs.{Sets.is_empty, Sets.at_hash, declared.cpu_mask.CpuMask.CpuMask}
 use Rattle.hop_delivery.proofs.Names.{◌≡◌, ◌≢◌, ℕ, zero, suc, ◌+◌, ◌<◌, ◌≤◌, Bool, true, false, not}
 use Rattle.hop_delivery.proofs.Names.{List, [], ◌∷◌, Option, Some, None, length, if◌then◌else◌, sym}
 use Rattle.hop_delivery.proofs.Names.{refl, ap, ◌∙◌, arith, inl, inr, ◌⊎◌, nat_lt, slice_index}
 use Rattle.hop_delivery.proofs.Names.{list_any, range_with_len, cases_Bool, cases_eq, true≢false}
 use Rattle.hop_delivery.proofs.Names.{eq-eqb, has, with_setting, IsSteering, goal_of, Queues}
 use Rattle.hop_delivery.proofs.Names.{online_word, receive_steering}
-
-any-here : (test : ℕ → Bool) (xs : List ℕ) (i : ℕ) → i < length xs → test (slice_index xs i) ≡ true
-    → list_any test xs ≡ true
-any-here test [] i l e = absurd (omega arith)
-any-here test (x ∷ xs) zero l e = rw e refl
-any-here test (x ∷ xs) (suc i) l e = ap (λ b. test x || b) (any-here test xs i (omega arith) e)
-    ∙ or-right (test x)
-  where
-    or-right : (b : Bool) → (b || true) ≡ true
-    or-right true = refl
-    or-right false = refl
+use Rattle.hop_delivery.proofs.Orders.FilterLemmas.{any-member, both, get-of}
+use Rattle.hop_delivery.specs.Orders.ReceiveSettings.{mask, queues, online, rps, came_on}
+use Rattle.hop_delivery.specs.Orders.ReceiveSettings.{empty_for_mask, must_be_empty, GoalsAreOnline}
 
 any-in : (test : ℕ → Bool) (a n c : ℕ) → a ≤ c → c < a + n → test c ≡ true
     → list_any test (range_with_len a n) ≡ true
 any-in test a zero c from to e = absurd (omega arith)
 any-in test a (suc n) c from to e = elim (cases_eq c a) [
-  | inl is ↦ (let y : test a ≡ true = ap test (sym is) ∙ e in rw y refl)
-  | inr ne ↦ ap (λ b. test a || b) (any-in test (a + 1) n c (omega arith) (omega arith) e)
-      ∙ or-right (test a)
-]
-  where
-    or-right : (b : Bool) → (b || true) ≡ true
-    or-right true = refl
-    or-right false = refl
-
-both-true : (a b : Bool) → a ≡ true → b ≡ true → (a && b) ≡ true
-both-true a b e f = rw (e, f) refl
-
-or-left : (a b : Bool) → a ≡ true → (a || b) ≡ true
-or-left a b e = rw e refl
-
-or-other : (a b : Bool) → b ≡ true → (a || b) ≡ true
-or-other true b e = refl
-or-other false b e = e
+  | inl is ↦ or_left (test a) _ (ap test (sym is) ∙ e)
+  | inr ne ↦ or_right (test a) _ (any-in test (a + 1) n c (omega arith) (omega arith) e) ]
 
 -- a processor of a mask is below 32
 has-few : (m : CpuMask) (c : ℕ) → has m c ≡ true → c < 32
-has-few m c e = ltb-true c 32 (first (nat_lt c 32) _ e)
-  where
-    first : (a b : Bool) → (a && b) ≡ true → a ≡ true
-    first true b e = refl
-    first false b e = absurd (true≢false (sym e))
+has-few m c e = ltb-true c 32 (both (nat_lt c 32) _ e).0
 
 -- a choice that changes with the online mask goes away from one that goes offline, or from the home
 -- as one comes online
@@ -63,21 +32,17 @@ moved : (cpu home : ℕ) (old new : CpuMask) → online_or old cpu home ≢ onli
 moved cpu home old new ne = elim (cases_Bool (has old cpu)) [
   | inl a ↦ elim (cases_Bool (has new cpu)) [
     | inl b ↦ absurd (ne (rw (a, b) refl))
-    | inr b ↦ inl (rw a refl, a, b)
-  ]
+    | inr b ↦ inl (rw a refl, a, b) ]
   | inr a ↦ elim (cases_Bool (has new cpu)) [
     | inl b ↦ inr (rw a refl, a, b)
-    | inr b ↦ absurd (ne (rw (a, b) refl))
-  ]
-]
+    | inr b ↦ absurd (ne (rw (a, b) refl)) ] ]
 
 -- one of two processors that is online
 either_online : (on : CpuMask) (cpu other : ℕ) → has on other ≡ true
     → has on (online_or on cpu other) ≡ true
 either_online on cpu other is = elim (cases_Bool (has on cpu)) [
   | inl e ↦ rw e e
-  | inr e ↦ rw e is
-]
+  | inr e ↦ rw e is ]
 
 module _ (q : Queues) where
   abbrev Q : ℕ
@@ -99,11 +64,10 @@ module _ (q : Queues) where
         let new : has (mask v) l ≡ false = sym (ap (λ n. has (mask n) l) (same_word s w v W e))
         ∙ gone in
         ap (λ b. if b then empty_for_mask q (online q s) (mask v) l else true) (eq-eqb w W e)
-        ∙ or-left (has (online q s) l && not (has (mask v) l)) _
-        (both-true (has (online q s) l) (not (has (mask v) l)) on (ap not new)))
+        ∙ or_left (has (online q s) l && not (has (mask v) l)) _
+        (and_from (has (online q s) l) (not (has (mask v) l)) on (ap not new)))
     | inr ne ↦ ap (λ b. if b then empty_for_mask q (online q s) (mask v) l else true)
-        (ne_eqb w W ne)
-  ]
+        (ne_eqb w W ne) ]
 
   -- the choice of a queue, as the online mask changes
   by_mask : (s : ℕ → ℕ) (v p l : ℕ) (m : CpuMask) (hash : Option ℕ) → p < Q → rps_choice_of m hash
@@ -126,21 +90,20 @@ module _ (q : Queues) where
         elim (moved cpu home (online q s) (mask v) (λ same. ne (old ∙ (same ∙ sym new)))) [
           | inl a ↦ (
               let l_is : l ≡ cpu = sym is ∙ (old ∙ a.0) in
-              or-left (has (online q s) l && not (has (mask v) l))
+              or_left (has (online q s) l && not (has (mask v) l))
               (list_any (λ home. home == l) q.homes && came_on q (online q s) (mask v))
-              (both-true (has (online q s) l) (not (has (mask v) l))
+              (and_from (has (online q s) l) (not (has (mask v) l))
               (ap (has (online q s)) l_is ∙ a.1) (ap not (ap (has (mask v)) l_is ∙ a.2))))
           | inr a ↦ (
               let l_is : home ≡ l = sym (old ∙ a.0) ∙ is in
-              or-other (has (online q s) l && not (has (mask v) l))
+              or_right (has (online q s) l && not (has (mask v) l))
               (list_any (λ home. home == l) q.homes && came_on q (online q s) (mask v))
-              (both-true (list_any (λ home. home == l) q.homes) (came_on q (online q s) (mask v))
-              (any-here (λ home. home == l) q.homes p few (eq-eqb home l l_is))
+              (and_from (list_any (λ home. home == l) q.homes) (came_on q (online q s) (mask v))
+              (any-member (λ home. home == l) q.homes p home (get-of q.homes p few)
+              (eq-eqb home l l_is))
               (any-in (λ c. not (has (online q s) c) && has (mask v) c) 0 32 cpu (omega arith)
               (has-few (mask v) cpu a.2)
-              (both-true (not (has (online q s) cpu)) (has (mask v) cpu) (ap not a.1) a.2))))
-        ])
-  ]
+              (and_from (not (has (online q s) cpu)) (has (mask v) cpu) (ap not a.1) a.2)))) ]) ]
 
   moves : (s : ℕ → ℕ) (w v p f : ℕ) → rps q s p f ≢ rps q (with_setting s w v) p f
       → must_be_empty q s w v (rps q s p f) ≡ true
@@ -148,8 +111,7 @@ module _ (q : Queues) where
     | inr other ↦ ap (λ b. if b then empty_for_mask q (online q s) (mask v) (rps q s p f) else true)
         (ne_eqb w W other)
     | inl e ↦ elim (cases_Bool (nat_lt p Q)) [
-      | inr out ↦ absurd (ne
-          (ap (λ b. if b then rps_choice_of (mask (s p)) (q.hash f) (online q s)
+      | inr out ↦ absurd (ne (ap (λ b. if b then rps_choice_of (mask (s p)) (q.hash f) (online q s)
           (slice_index q.homes p) else 0) out
           ∙ sym (ap (λ b. if b then rps_choice_of (mask (with_setting s w v p)) (q.hash f)
           (online q (with_setting s w v)) (slice_index q.homes p) else 0) out)))
@@ -168,9 +130,7 @@ module _ (q : Queues) where
           (mask (same_word s w v W e i)) (slice_index q.homes p)) in
           ap (λ b. if b then empty_for_mask q (online q s) (mask v) l else true) (eq-eqb w W e)
           ∙ by_mask s v p l (mask (s p)) (q.hash f) few (λ same. ne (old ∙ (same ∙ sym new)))
-          (sym old))
-    ]
-  ]
+          (sym old)) ] ]
 
   resizes : (s : ℕ → ℕ) (w v p l : ℕ) → (receive_steering q).shape s p ≢ (receive_steering q).shape
       (with_setting s w v) p → must_be_empty q s w v l ≡ true
@@ -183,24 +143,19 @@ module _ (q : Queues) where
       | inl in_ ↦ (let few : p < Q = ltb-true p Q in_ in
           absurd (ne (ap (λ b. if b then s (Q + p) else 0) in_
           ∙ (sym (other_word s w v (Q + p) (λ h. absurd (omega arith)))
-          ∙ sym (ap (λ b. if b then with_setting s w v (Q + p) else 0) in_)))))
-    ]
-  ]
+          ∙ sym (ap (λ b. if b then with_setting s w v (Q + p) else 0) in_))))) ] ]
 
   pub receive_steers : (lanes : ℕ) → IsSteering lanes (receive_steering q)
   receive_steers lanes = record {
-    off = λ s w v l less on gone. off s w v l on gone;
-    moves = λ s w v p f ne. moves s w v p f ne;
-    resizes = λ s w v p l less ne. resizes s w v p l ne;
-  }
+    off = λ s w v l less on gone. off s w v l on gone; moves = λ s w v p f ne. moves s w v p f ne;
+    resizes = λ s w v p l less ne. resizes s w v p l ne; }
 
   -- ---- goals
 
   choice_online : (m on : CpuMask) (hash : Option ℕ) (home : ℕ) → has on home ≡ true
       → has on (rps_choice_of m hash on home) ≡ true
   choice_online m on None home is = is
-  choice_online m on (Some h) home is = by_empty (is_empty (those_below 32 (has m)))
-    where
+  choice_online m on (Some h) home is = by_empty (is_empty (those_below 32 (has m))) where
       cpu : ℕ
       cpu = at_hash (those_below 32 (has m)) h
 
@@ -211,8 +166,7 @@ module _ (q : Queues) where
   pub goals_online : (s : ℕ → ℕ) (p f : ℕ) (class want : Option ℕ) → p < Q → has (online q s)
       (slice_index q.homes p) ≡ true → has (online q s)
       (goal_of (receive_steering q) s p f class want) ≡ true
-  goals_online s p f class want few home = by_class class want
-    where
+  goals_online s p f class want few home = by_class class want where
       plain : has (online q s) (rps q s p f) ≡ true
       plain = ap (λ b. has (online q s)
           (if b then rps_choice_of (mask (s p)) (q.hash f) (online q s) (slice_index q.homes p) else

@@ -1,19 +1,16 @@
 -- Two choices of one flow of one producer: where they have different lanes, the earlier packet was
 -- retired before the
 -- later one was put.
-use Rattle.std.proofs.Common.{get_or}
-use Rattle.std.specs.Prelude.{◌==◌, slice_index_or}
-use Rattle.std.proofs.lemmas.Bool.{ne_eqb, eqb-true}
+use Rattle.std.proofs.{Common.get_or, lemmas.Bool.ne_eqb, lemmas.Bool.eqb-true}
 use Rattle.std.proofs.lemmas.List.{get_or-drop, get_or-take, length-drop, length-take-le, drop-take}
-use Rattle.steer_base.specs.declared.choice.Choice.{Choice}
-use Rattle.steer_base.specs.declared.choice.Entry.{Entry}
+use Rattle.std.specs.Prelude.{◌==◌, slice_index_or}
 use Rattle.steer_base.proofs.RuleLemmas.{by_entry-class, by_entry-online}
-use Rattle.dev_flow_table.specs.Walks.{IsRuled as IsRuledAt, IsWalk, since_resize}
+use Rattle.steer_base.specs.declared.choice.{Choice.Choice, Entry.Entry}
 use Rattle.dev_flow_table.proofs.WalksLemmas.{since_is_last_change, walk_keeps_order}
+use Rattle.dev_flow_table.specs.Walks.{IsRuled as IsRuledAt, IsWalk, since_resize}
 use Rattle.hop_model.specs.Hop.{nobody}
-use Rattle.hop_rule.specs.Boards.{retired}
-use Rattle.hop_rule.specs.declared.sizes.TheConstants.{MAX_BOARD_ROOM}
 use Rattle.hop_rule.proofs.Boards.{few, lawful_past, retired_later}
+use Rattle.hop_rule.specs.{Boards.retired, declared.sizes.TheConstants.MAX_BOARD_ROOM}
 use Rattle.hop_delivery.proofs.Names.{ℕ, zero, suc, ◌+◌, ◌-◌, ◌^◌, ◌%◌, ◌≤◌, ◌<◌, ◌≡◌, ◌⊎◌, inl}
 use Rattle.hop_delivery.proofs.Names.{inr, Bool, true, false, List, [], ◌∷◌, Option, Some, None}
 use Rattle.hop_delivery.proofs.Names.{length, refl, ap, ◌∙◌, sym, arith, take, drop, subst}
@@ -22,11 +19,9 @@ use Rattle.hop_delivery.proofs.Names.{entry, position, Chosen, StepBy, IsLawful,
 use Rattle.hop_delivery.proofs.Names.{with_setting, past, FitSizes, BoardSizes, BoardStep, Weighed}
 use Rattle.hop_delivery.proofs.Names.{step_lawful, IsSteering, Steering, goal_of}
 use Rattle.hop_delivery.proofs.Orders.AccountLemmas.{Account, IsAccount, IsRuled, At, before}
-use Rattle.hop_delivery.proofs.Orders.AccountLemmas.{chosen, class_at}
-use Rattle.hop_delivery.proofs.Orders.AccountLemmas.{flow_at, lane_chosen, retired_at, settings_at}
-use Rattle.hop_delivery.proofs.Orders.AccountLemmas.{shape_at}
-use Rattle.hop_delivery.proofs.Orders.EmptyingLemmas.{empties}
-use Rattle.hop_delivery.proofs.Orders.PlaceLemmas.{in_range, puts_rise, rises}
+use Rattle.hop_delivery.proofs.Orders.AccountLemmas.{chosen, class_at, flow_at, lane_chosen}
+use Rattle.hop_delivery.proofs.Orders.AccountLemmas.{retired_at, settings_at, shape_at, empties}
+use Rattle.hop_delivery.proofs.Orders.AccountLemmas.{in_range, puts_rise, rises}
 
 -- ---- the lesser of two numbers
 
@@ -57,19 +52,14 @@ since-again : (size : ℕ → ℕ) (j k : ℕ) → since_resize size j ≤ k →
     → since_resize size k ≡ since_resize size j
 unfolding since_resize
 since-again size zero k from to = let e : k ≡ 0 = omega arith in ap (since_resize size) e
-since-again size (suc j) k from to =
-    elim (cases_eq k (suc j)) [
+since-again size (suc j) k from to = elim (cases_eq k (suc j)) [
       | inl e ↦ ap (since_resize size) e
       | inr ne ↦ elim (cases_Bool (size j == size (suc j))) [
         | inl e ↦ (
             let below : since_resize size j ≤ k = rw e at from in
-            let t = since-again size j k below (omega arith) in
-            rw e t)
+            let t = since-again size j k below (omega arith) in rw e t)
         | inr e ↦ (
-            let below : suc j ≤ k = rw e at from in
-            absurd (omega arith))
-      ]
-    ]
+            let below : suc j ≤ k = rw e at from in absurd (omega arith)) ] ]
 
 get_or-any : (xs : List Chosen) (k : ℕ) (d e : Chosen) → k < length xs
     → get_or xs k d ≡ get_or xs k e
@@ -124,13 +114,11 @@ module _ (about : BoardSizes) (order : List (StepBy BoardStep)) (fit : FitSizes 
   entry_at i k = entry about.start acc (before about order a r p i) k
 
   rule_of : (i : ℕ) (x : Option ℕ) → i < a.placed p → class i ≡ x
-      → (b : IsRuled about order a r p i)
-      → (c i).choice ≡ migrate x (c i).choice.want
+      → (b : IsRuled about order a r p i) → (c i).choice ≡ migrate x (c i).choice.want
       (goal_of r (settings_at about order a r p i) p (flow_at about order a r p i) x
       (c i).choice.want) (entry about.start acc (before about order a r p i)) (λ _. b.head)
       (online i)
-  rule_of i x l is b = b.rule
-      ∙ (λ y. migrate (is y) (c i).choice.want
+  rule_of i x l is b = b.rule ∙ (λ y. migrate (is y) (c i).choice.want
       (goal_of r (settings_at about order a r p i) p (flow_at about order a r p i) (is y)
       (c i).choice.want) (entry about.start acc (before about order a r p i)) (λ _. b.head)
       (online i))
@@ -151,16 +139,14 @@ module _ (about : BoardSizes) (order : List (StepBy BoardStep)) (fit : FitSizes 
 
   -- the class of a choice is that of its flow
   class_of : (i k : ℕ) → i < a.placed p → (c i).choice.class ≡ Some k → class i ≡ Some k
-  class_of i k l is = by_class (class i) refl
-    where
+  class_of i k l is = by_class (class i) refl where
       by_class : (x : Option ℕ) → class i ≡ x → class i ≡ Some k
       by_class None e = Rattle.hop_rule.proofs.Lists.none-some k (sym (plain_class i l e) ∙ is)
       by_class (Some m) e = e ∙ (sym (has_class i m l e) ∙ is)
 
   -- a choice goes to a lane that is online
   lane_online : (i : ℕ) → i < a.placed p → online i (lane i) ≡ true
-  lane_online i l = by_class (class i) refl
-    where
+  lane_online i l = by_class (class i) refl where
       by_class : (x : Option ℕ) → class i ≡ x → online i (lane i) ≡ true
       by_class x e =
           let b = good.by_rule p i l in
@@ -168,9 +154,7 @@ module _ (about : BoardSizes) (order : List (StepBy BoardStep)) (fit : FitSizes 
           (flow_at about order a r p i) x (c i).choice.want) ≡ true =
           subst (λ (z : Option ℕ). online i
           (goal_of r (settings_at about order a r p i) p (flow_at about order a r p i) z
-          (c i).choice.want) ≡ true) e b.goal_online in
-          by_kind x e b goal
-        where
+          (c i).choice.want) ≡ true) e b.goal_online in by_kind x e b goal where
           by_kind : (x : Option ℕ) → class i ≡ x → (b : IsRuled about order a r p i)
               → online i (goal_of r (settings_at about order a r p i) p
               (flow_at about order a r p i) x (c i).choice.want) ≡ true → online i (lane i) ≡ true
@@ -198,20 +182,15 @@ module _ (about : BoardSizes) (order : List (StepBy BoardStep)) (fit : FitSizes 
       (sym x) ∙ off in
       let gone_ = empties about order fit lawful a r good p (s + m) (s + m) i n
       (λ z. r.online z (lane (s + m))) (omega arith) (omega arith) l
-      (lane_online (s + m) (omega arith)) off'
-      (λ z w v yes_ no_. steers.off z w v (lane (s + m))
+      (lane_online (s + m) (omega arith)) off' (λ z w v yes_ no_. steers.off z w v (lane (s + m))
       (in_range about order lawful a r good p (s + m) (omega arith)) yes_ no_)
       (ap (position acc) (sym x) ∙ at) in
       subst (λ (z : Chosen). n ≤ gone i z.choice.lane) (sym x) gone_
 
   at_choice : (i k : ℕ) → i < a.placed p → class i ≡ Some k → IsRuledAt about.start acc (gone i)
       (before about order a r p i) k (c i)
-  at_choice i k l is =
-      let b = good.by_rule p i l in record {
-        desired = desired i;
-        online = online i;
-        head = b.head;
-        rule = rule_of i (Some k) l is b;
+  at_choice i k l is = let b = good.by_rule p i l in record {
+        desired = desired i; online = online i; head = b.head; rule = rule_of i (Some k) l is b;
         seen = λ m there looked. (
             let w = b.loaded k m is there looked in
             let value = (step_lawful about order w.moment (a.seat p) (Weighed m w.word) lawful
@@ -219,10 +198,8 @@ module _ (about : BoardSizes) (order : List (StepBy BoardStep)) (fit : FitSizes 
             let before_put = w.before in (
               retired about (past w.moment order) m,
               sym w.shows ∙ ap (λ z. z % 2 ^ 32) value,
-              retired_later about order w.moment (a.put p i) m (omega arith),
-            ));
-        drained = λ m n d inside off at. drained_at i l m n d inside off at;
-      }
+              retired_later about order w.moment (a.put p i) m (omega arith)));
+        drained = λ m n d inside off at. drained_at i l m n d inside off at; }
 
   -- ---- the choices of a producer since its last resize are a walk
 
@@ -255,11 +232,9 @@ module _ (about : BoardSizes) (order : List (StepBy BoardStep)) (fit : FitSizes 
         let split : suc j ≡ s + (i + m) = omega arith in
         let again = since-again size j (s + i) (omega arith) le in
         ap (λ n. take i (drop s (take n (a.choices p)))) split
-        ∙ (ap (take i) (drop-take s (i + m) (a.choices p))
-        ∙ (take-less i m (drop s (a.choices p))
+        ∙ (ap (take i) (drop-take s (i + m) (a.choices p)) ∙ (take-less i m (drop s (a.choices p))
         ∙ (sym (drop-take s i (a.choices p)) ∙ ap (λ n. drop n (take (s + i) (a.choices p)))
-        (sym again))))
-      where
+        (sym again)))) where
         take-less : (i m : ℕ) (xs : List Chosen) → take i (take (i + m) xs) ≡ take i xs
         take-less zero m xs = refl
         take-less (suc i) m [] = let e : suc i + m ≡ suc (i + m) = omega arith in
@@ -311,19 +286,14 @@ module _ (about : BoardSizes) (order : List (StepBy BoardStep)) (fit : FitSizes 
         let is = class_of (s + i) k l mine in
         subst (λ (z : ℕ × (List Chosen × Chosen)). IsRuledAt about.start acc (gone z.0) z.1.0 k
         z.1.1) (λ v. (
-          sym (at_walk_is i (omega arith)) v,
-          (sym (before_is i (omega arith)) v, sym x v),
+          sym (at_walk_is i (omega arith)) v, (sym (before_is i (omega arith)) v, sym x v),
         )) (at_choice (s + i) k l is)
 
     is_walk : IsWalk about.start acc gone_at cs
     is_walk = record {
-      start_small = fit.start;
-      few = accepted_fits;
-      few_retired = λ i l. retired_fits (a.put p (at_walk i)) l;
-      rising = gone_rises;
-      in_order = in_order;
-      ruled = ruled;
-    }
+      start_small = fit.start; few = accepted_fits;
+      few_retired = λ i l. retired_fits (a.put p (at_walk i)) l; rising = gone_rises;
+      in_order = in_order; ruled = ruled; }
 
     -- of two choices of one class, the earlier packet was retired before the later put, or the
     -- lanes are one
@@ -344,8 +314,7 @@ module _ (about : BoardSizes) (order : List (StepBy BoardStep)) (fit : FitSizes 
           | inl passed_ ↦ inl (subst (λ (z : ℕ × Chosen). n ≤ gone z.0 z.1.choice.lane)
               (λ v. (last v, x v)) passed_)
           | inr same ↦ inr (ap (λ (z : Chosen). z.choice.lane) (sym x)
-              ∙ (same ∙ ap (λ (z : Chosen). z.choice.lane) y))
-        ]
+              ∙ (same ∙ ap (λ (z : Chosen). z.choice.lane) y)) ]
 
     walked_since : (i k n : ℕ) → since_resize size j ≤ i → i < j → IsAt i n → class i ≡ Some k
         → class j ≡ Some k → (n ≤ gone j (lane i)) ⊎ (lane i ≡ lane j)
@@ -372,15 +341,11 @@ module _ (about : BoardSizes) (order : List (StepBy BoardStep)) (fit : FitSizes 
             (eq-eqb (r.plain (settings_at about order a r p i) p f) (lane i) (sym mine))
             (ne_eqb (r.plain (settings_at about order a r p j) p f) (lane i)
             (λ e. ne (sym e ∙ (ap (r.plain (settings_at about order a r p j) p) flow
-            ∙ sym theirs))))
-            (λ z w v yes_ no_.
+            ∙ sym theirs)))) (λ z w v yes_ no_.
             let is_a : r.plain z p f ≡ lane i = eqb-true (r.plain z p f) (lane i) yes_ in
-            subst (λ (y : ℕ). r.affects z w v y ≡ true) is_a
-            (steers.moves z w v p f
+            subst (λ (y : ℕ). r.affects z w v y ≡ true) is_a (steers.moves z w v p f
             (λ e. true≢false (sym (eq-eqb (r.plain (with_setting z w v) p f) (lane i)
-            (sym e ∙ is_a)) ∙ no_))))
-            at)
-      ]
+            (sym e ∙ is_a)) ∙ no_)))) at) ]
 
   pub passed : (i j n : ℕ) → i < j → j < a.placed p → IsAt i n
       → flow_at about order a r p i ≡ flow_at about order a r p j → Passed i j n
@@ -401,16 +366,11 @@ module _ (about : BoardSizes) (order : List (StepBy BoardStep)) (fit : FitSizes 
             let is_k : r.shape z p ≡ size k = eqb-true (r.shape z p) (size k) yes_ in
             steers.resizes z w v p (lane i) (in_range about order lawful a r good p i (omega arith))
             (λ e. true≢false (sym (eq-eqb (r.shape (with_setting z w v) p) (size k) (sym e ∙ is_k))
-            ∙ no_)))
-            at in
-            inl (up_to (suc k) gone_ kj))
-      ]
-    where
+            ∙ no_))) at in inl (up_to (suc k) gone_ kj)) ] where
       up_to : (k : ℕ) → n ≤ gone k (lane i) → k ≤ j → n ≤ gone j (lane i)
       up_to k gone_ le = elim (cases_eq k j) [
         | inl e ↦ subst (λ (z : ℕ). n ≤ gone z (lane i)) e gone_
         | inr ne ↦ (
             let rise = puts_rise about order lawful a r good p k j (omega arith) l in
             let up = retired_later about order (a.put p k) (a.put p j) (lane i) (omega arith) in
-            omega arith)
-      ]
+            omega arith) ]

@@ -1,24 +1,18 @@
 -- Each put is a turn's, no packet is put twice, and so the answer of a put is the packet's place.
 use Rattle.std.specs.Prelude.{◌≡◌, ℕ, ◌<◌, List, Option, Some, length, slice_get, slice_index, All}
 use Rattle.linearization.specs.Orders.{StepBy}
-use Rattle.steer_base.specs.Entries.{place_in}
-use Rattle.steer_base.specs.declared.put.LaneDrop.{LaneDrop}
-use Rattle.steer_base.specs.declared.put.Put.{Put}
+use Rattle.steer_base.specs.{Entries.place_in, declared.put.LaneDrop.LaneDrop, declared.put.Put.Put}
 use Rattle.dev_flow_table.specs.Folds.{IsPutAt}
 use Rattle.history.specs.Lists.{lane_at}
 use Rattle.hop_rule.specs.Moments.{nth_step}
-use Rattle.hop_rule.specs.declared.sizes.BoardSizes.{BoardSizes}
-use Rattle.hop_rule.specs.declared.step.BoardStep.{BoardStep}
-use Rattle.board_api.specs.OwnSteps.{Has, put_step}
-use Rattle.board_api.specs.declared.lists.BoardLists.{BoardLists}
-use Rattle.hop_delivery.specs.Orders.Runs.{Execution, turns_of}
-use Rattle.hop_delivery.specs.Orders.Turns.{Turn, Explained}
+use Rattle.hop_rule.specs.declared.{sizes.BoardSizes.BoardSizes, step.BoardStep.BoardStep}
+use Rattle.board_api.specs.{OwnSteps.Has, OwnSteps.put_step, declared.lists.BoardLists.BoardLists}
 use Rattle.hop_delivery.specs.Closings.FlowLaw.{accepted_left}
+use Rattle.hop_delivery.specs.Orders.{Runs.Execution, Runs.turns_of, Turns.Turn, Turns.Explained}
 
 -- No packet is put twice: two own steps that put it are one step of one seat.
 abbrev pub PutsAreOnce : (ℕ → List BoardStep) → Type 0
-PutsAreOnce own =
-    (p q j k l m id : ℕ) (hash other : Option ℕ) (answer reply : Put)
+PutsAreOnce own = (p q j k l m id : ℕ) (hash other : Option ℕ) (answer reply : Put)
     → Has (own p) j (put_step l id hash answer) → Has (own q) k (put_step m id other reply)
     → (p ≡ q) × (j ≡ k)
 
@@ -40,8 +34,7 @@ TurnsPutOnce = (own : ℕ → List BoardStep) (t : Execution) → AreTurnsOf own
 -- If no packet is put twice, the answer of a put is the packet's place among those that its lane
 -- accepted; a dropped packet is not among them.
 abbrev pub AnswersArePlaces : BoardSizes → (ℕ → List BoardStep) → BoardLists → Type 0
-AnswersArePlaces about own lists =
-    PutsAreOnce own → (q k l id : ℕ) (hash : Option ℕ) (answer : Put)
+AnswersArePlaces about own lists = PutsAreOnce own → (q k l id : ℕ) (hash : Option ℕ) (answer : Put)
     → Has (own q) k (put_step l id hash answer)
     → IsPutAt about.start (place_in id (accepted_left lists l)) (Some answer)
 

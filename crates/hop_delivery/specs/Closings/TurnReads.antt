@@ -1,27 +1,20 @@
 -- The settings that a turn knows, and choices by what it knows.
-use Rattle.std.specs.Prelude.{◌≡◌, ◌⊎◌, ℕ, ◌*◌, ◌%◌, ◌^◌, ◌<◌, ◌≤◌, true, List, Option, Some, take}
-use Rattle.std.specs.Prelude.{drop}
-use Rattle.std.specs.List.{Contains}
-use Rattle.steer_base.specs.Choices.{migrate}
-use Rattle.steer_base.specs.Entries.{entry, of_class, current_lane}
+use Rattle.std.specs.{List.Contains, Prelude.◌≡◌}
+use Rattle.std.specs.Prelude.{◌⊎◌, ℕ, ◌*◌, ◌%◌, ◌^◌, ◌<◌, ◌≤◌, true, List, Option, Some, take, drop}
+use Rattle.steer_base.specs.{Choices.migrate, Entries.entry, Entries.of_class, Entries.current_lane}
 use Rattle.steer_base.specs.declared.choice.Chosen.{Chosen}
 use Rattle.dev_flow_table.specs.Walks.{since_resize}
-use Rattle.hop_rule.specs.Moments.{nth_step}
-use Rattle.hop_rule.specs.declared.sizes.BoardSizes.{BoardSizes}
-use Rattle.hop_rule.specs.declared.step.BoardStep.{BoardStep}
-use Rattle.hop_rule.specs.declared.step.BoardStep.TheVariants.{Gate, Weighed}
+use Rattle.hop_rule.specs.{Moments.nth_step, declared.sizes.BoardSizes.BoardSizes}
+use Rattle.hop_rule.specs.declared.step.BoardStep.{BoardStep, TheVariants.Gate, TheVariants.Weighed}
 use Rattle.hop_rule.specs.declared.step.GateStep.TheVariants.{Read}
-use Rattle.board_api.specs.OwnSteps.{ReadsIn}
-use Rattle.board_api.specs.StepWords.{openings_in}
+use Rattle.board_api.specs.{OwnSteps.ReadsIn, StepWords.openings_in}
 use Rattle.board_api.specs.declared.lists.BoardLists.{BoardLists}
-use Rattle.hop_delivery.specs.Orders.ReceiveSettings.{Queues, queues, receive_steering}
-use Rattle.hop_delivery.specs.Orders.ReceiveSettings.{flows_word, mask_word, online_word}
-use Rattle.hop_delivery.specs.Orders.Runs.{Execution, Steering, IsByRule, goal_of}
-use Rattle.hop_delivery.specs.Orders.Runs.{settings_of_visit}
-use Rattle.hop_delivery.specs.Orders.Runs.{turns_of}
-use Rattle.hop_delivery.specs.Orders.TransmitSettings.{pick_by}
-use Rattle.hop_delivery.specs.Orders.Turns.{Turn, Explained}
 use Rattle.hop_delivery.specs.Closings.FlowLaw.{accepted_left}
+use Rattle.hop_delivery.specs.Orders.ReceiveSettings.{Queues, queues, receive_steering, flows_word}
+use Rattle.hop_delivery.specs.Orders.ReceiveSettings.{mask_word, online_word}
+use Rattle.hop_delivery.specs.Orders.Runs.{Execution, Steering, IsByRule, goal_of}
+use Rattle.hop_delivery.specs.Orders.Runs.{settings_of_visit, turns_of}
+use Rattle.hop_delivery.specs.Orders.{TransmitSettings.pick_by, Turns.Turn, Turns.Explained}
 
 -- The turn read this value of a setting word, between its entry and its put.
 abbrev pub HasRead : Turn → ℕ → ℕ → Type 0
@@ -35,8 +28,7 @@ Knows own u word value = HasRead u word value ⊎ ReadsIn own (openings_in u.wor
 module _ (about : BoardSizes) (own : ℕ → List BoardStep) (lists : BoardLists) where
   -- The settings that a turn knows are those of its visit.
   abbrev pub TurnsKnowSettings : Type 0
-  TurnsKnowSettings =
-      (t : Execution) (p i word value : ℕ) (u : Turn)
+  TurnsKnowSettings = (t : Execution) (p i word value : ℕ) (u : Turn)
       → Explained (own (t.seat p)) (t.turns (t.seat p)) → nth_step (turns_of t p) i ≡ Some u
       → Knows (own (t.seat p)) u word value → value ≡ settings_of_visit about own u.word word
 
@@ -44,8 +36,7 @@ module _ (about : BoardSizes) (own : ℕ → List BoardStep) (lists : BoardLists
 
 -- A turn of queue p, of a seat with these steps, knows the queue's mask, its flow count and the
 -- online mask, and these are as in s.
-pub record HasSeen (own : List BoardStep) (q : Queues) (p : ℕ) (u : Turn) (s : ℕ → ℕ)
-    : Type 0 where
+pub record HasSeen (own : List BoardStep) (q : Queues) (p : ℕ) (u : Turn) (s : ℕ → ℕ) : Type 0 where
   pub mask : Knows own u (mask_word q p) (s (mask_word q p))
   pub flows : Knows own u (flows_word q p) (s (flows_word q p))
   pub online : Knows own u (online_word q) (s (online_word q))
@@ -75,12 +66,10 @@ module _ (about : BoardSizes) (accepted : ℕ → List ℕ) (t : Execution) (r :
   -- producer's turns have seen, the i-th of them `seen i`.
   pub record IsBySeen (p i : ℕ) (u : Turn) : Type 0 where
     pub head : ℕ
-    pub rule : u.chosen.choice
-        ≡ migrate (class_seen p i u) u.chosen.choice.want (goal_seen p i u)
+    pub rule : u.chosen.choice ≡ migrate (class_seen p i u) u.chosen.choice.want (goal_seen p i u)
         (entry about.start accepted (before_seen p i)) (λ _. head) (r.online (seen i))
     pub loaded : (k l : ℕ) → class_seen p i u ≡ Some k
-        → current_lane (of_class k (before_seen p i)) ≡ Some l
-        → u.chosen.choice.head ≡ Some head
+        → current_lane (of_class k (before_seen p i)) ≡ Some l → u.chosen.choice.head ≡ Some head
         → (w : ℕ) × Contains u.early (Weighed l w) × (w % 2 ^ 32 ≡ head)
     pub goal_online : r.online (seen i) (goal_seen p i u) ≡ true
 
@@ -107,8 +96,7 @@ module _ (about : BoardSizes) (own : ℕ → List BoardStep) (lists : BoardLists
   -- The transmit queue that is picked by the maps that a turn knows is the one that is picked by
   -- those of its visit.
   abbrev pub PicksAreByReads : Type 0
-  PicksAreByReads =
-      (t : Execution) (p i count : ℕ) (u : Turn) (s : ℕ → ℕ)
+  PicksAreByReads = (t : Execution) (p i count : ℕ) (u : Turn) (s : ℕ → ℕ)
       → Explained (own (t.seat p)) (t.turns (t.seat p)) → nth_step (turns_of t p) i ≡ Some u
       → KnowsMaps (own (t.seat p)) count u s → (rxq cpu : ℕ) (hash : Option ℕ)
       → pick_by count s rxq cpu hash

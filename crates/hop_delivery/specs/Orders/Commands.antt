@@ -1,16 +1,13 @@
 -- The settings that a command makes on a board, and the lanes that have to be empty for them.
 use Rattle.std.specs.Prelude.{◌≡◌, ℕ, ◌+◌, ◌*◌, ◌/◌, ◌^◌, ◌<◌, true, List, [], ◌∷◌, All}
-use Rattle.steer_base.specs.Commands.{is_affected}
-use Rattle.steer_base.specs.Counters.{rounded_up}
+use Rattle.steer_base.specs.{Commands.is_affected, Counters.rounded_up}
 use Rattle.steer_base.specs.Sets.{with_cpu, without_cpu}
-use Rattle.steer_base.specs.declared.command.Command.{Command}
-use Rattle.steer_base.specs.declared.command.Command.TheVariants.{Mask, Flows, Sock, Offline}
-use Rattle.steer_base.specs.declared.command.Command.TheVariants.{Online, XCpus, XQueues, Reta}
-use Rattle.steer_base.specs.declared.command.Command.TheVariants.{Stand, Expire}
+use Rattle.steer_base.specs.declared.command.Command.{Command, TheVariants.Mask, TheVariants.Flows}
+use Rattle.steer_base.specs.declared.command.Command.TheVariants.{Sock, Offline, Online, XCpus}
+use Rattle.steer_base.specs.declared.command.Command.TheVariants.{XQueues, Reta, Stand, Expire}
 use Rattle.hop_delivery.specs.Orders.ReceiveSettings.{Queues, flows_word, mask_word, online}
 use Rattle.hop_delivery.specs.Orders.ReceiveSettings.{online_word, receive_steering, socket_word}
-use Rattle.hop_delivery.specs.Orders.Runs.{Steering}
-use Rattle.hop_delivery.specs.Orders.TransmitSettings.{transmit_steering}
+use Rattle.hop_delivery.specs.Orders.{Runs.Steering, TransmitSettings.transmit_steering}
 
 -- A change of a setting: its word and its new value.
 pub record SettingChange : Type 0 where
@@ -63,12 +60,10 @@ AreAffected r s c homes cpus txs l sets =
 abbrev pub ReceivedCommandsEmpty : Type 0
 ReceivedCommandsEmpty =
     (q : Queues) (s : ℕ → ℕ) (c : Command) (cpus txs l : ℕ) → NamesCpu c → l < cpus
-    → AreAffected (receive_steering q) s c q.homes cpus txs l
-    (received_sets q s c)
+    → AreAffected (receive_steering q) s c q.homes cpus txs l (received_sets q s c)
 
 -- On a transmit board the lanes that have to be empty for the settings of a command are among those
 -- that it affects.
 abbrev pub SentCommandsEmpty : Type 0
-SentCommandsEmpty =
-    (flow : ℕ → ℕ) (s : ℕ → ℕ) (c : Command) (homes : List ℕ) (count cpus l : ℕ)
+SentCommandsEmpty = (flow : ℕ → ℕ) (s : ℕ → ℕ) (c : Command) (homes : List ℕ) (count cpus l : ℕ)
     → AreAffected (transmit_steering flow) s c homes cpus count l (sent_sets count c)

@@ -1,13 +1,11 @@
 -- The law of delivery in order, over an order of all steps on a board.
-use Rattle.std.specs.Prelude.{ℕ, Bool, ◌&&◌, ◌==◌, List}
 use Rattle.std.specs.List.{list_any}
+use Rattle.std.specs.Prelude.{ℕ, Bool, ◌&&◌, ◌==◌, List}
 use Rattle.steer_base.specs.Orders.{InOrder}
 use Rattle.linearization.specs.Orders.{StepBy}
 use Rattle.hop_rule.specs.Boards.{IsLawful, accepted, drops, out}
-use Rattle.hop_rule.specs.Owns.{own_of}
-use Rattle.hop_rule.specs.Sizes.{FitSizes}
-use Rattle.hop_rule.specs.declared.sizes.BoardSizes.{BoardSizes}
-use Rattle.hop_rule.specs.declared.step.BoardStep.{BoardStep}
+use Rattle.hop_rule.specs.{Owns.own_of, Sizes.FitSizes}
+use Rattle.hop_rule.specs.declared.{sizes.BoardSizes.BoardSizes, step.BoardStep.BoardStep}
 use Rattle.hop_delivery.specs.Orders.Premises.{MeetsPremises}
 use Rattle.hop_delivery.specs.Orders.Runs.{Execution, Steering, IsSteering}
 
@@ -22,6 +20,5 @@ abbrev pub DeliversInOrder : Type 0
 DeliversInOrder =
     (about : BoardSizes) (order : List (StepBy BoardStep)) (t : Execution) (r : Steering)
     → FitSizes about → IsLawful about order → IsSteering about.lanes r
-    → MeetsPremises about (own_of order) (accepted about order) t r
-    → (p f : ℕ)
+    → MeetsPremises about (own_of order) (accepted about order) t r → (p f : ℕ)
     → InOrder (came_by t r p f) (t.arrivals p) (drops about order) (out about order (r.to f))

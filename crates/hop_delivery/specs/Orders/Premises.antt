@@ -3,15 +3,12 @@
 use Rattle.std.specs.Prelude.{◌≡◌, ℕ, ◌%◌, ◌/◌, ◌^◌, ◌<◌, true, List, [], ◌∷◌, ◌++◌, Some, length}
 use Rattle.std.specs.Prelude.{slice_get, slice_index, All}
 use Rattle.linearization.specs.Orders.{StepBy}
-use Rattle.hop_rule.specs.Boards.{gate_steps}
-use Rattle.hop_rule.specs.Gates.{openings, own_settings}
-use Rattle.hop_rule.specs.Moments.{nth_step}
+use Rattle.hop_rule.specs.{Boards.gate_steps, Gates.openings, Gates.own_settings, Moments.nth_step}
 use Rattle.hop_rule.specs.Sizes.{closer}
-use Rattle.hop_rule.specs.declared.sizes.BoardSizes.{BoardSizes}
-use Rattle.hop_rule.specs.declared.step.BoardStep.{BoardStep}
+use Rattle.hop_rule.specs.declared.{sizes.BoardSizes.BoardSizes, step.BoardStep.BoardStep}
 use Rattle.hop_rule.specs.declared.step.BoardStep.TheVariants.{Lane, Gate, Weighed, Counted}
-use Rattle.hop_rule.specs.declared.step.LaneStep.TheVariants.{Given}
 use Rattle.hop_rule.specs.declared.step.GateStep.TheVariants.{Shut, Set}
+use Rattle.hop_rule.specs.declared.step.LaneStep.TheVariants.{Given}
 use Rattle.hop_delivery.specs.Orders.Runs.{Execution, Steering, IsByRule, turns_of}
 use Rattle.hop_delivery.specs.Orders.Turns.{Turn, Explained}
 

@@ -1,11 +1,10 @@
 -- How the settings of a receive board steer: the masks of the queues, their flow counts with their
 -- generations, the socket size and the online mask (kernel scaling chapter, sections RPS and RFS).
+use Rattle.std.specs.List.{list_any, range_with_len}
 use Rattle.std.specs.Prelude.{◌≡◌, ℕ, ◌+◌, ◌*◌, ◌%◌, ◌^◌, ◌<◌, ◌==◌, ◌&&◌, ◌||◌, Bool, true, not}
 use Rattle.std.specs.Prelude.{List, Option, Some, nat_lt, length, slice_index, if◌then◌else◌}
-use Rattle.std.specs.List.{list_any, range_with_len}
 use Rattle.steer_base.specs.Choices.{class_of, rps_choice_of, desired_cpu}
-use Rattle.steer_base.specs.Sets.{has}
-use Rattle.steer_base.specs.declared.cpu_mask.CpuMask.{CpuMask}
+use Rattle.steer_base.specs.{Sets.has, declared.cpu_mask.CpuMask.CpuMask}
 use Rattle.hop_delivery.specs.Orders.Runs.{Steering, goal_of}
 
 -- The home processor of each receive queue, the flow of each packet, and the hash and the
@@ -48,8 +47,7 @@ module _ (q : Queues) where
 
   -- The processor that receive packet steering chooses for a flow at a queue.
   abbrev pub rps : (ℕ → ℕ) → ℕ → ℕ → ℕ
-  rps s p f =
-      if nat_lt p queues
+  rps s p f = if nat_lt p queues
       then rps_choice_of (mask (s (mask_word p))) (q.hash f) (online s) (slice_index q.homes p)
       else 0
 
@@ -60,33 +58,24 @@ module _ (q : Queues) where
   -- Whether a lane has to be empty for a new online mask: that of each processor that goes offline,
   -- and the homes of all queues if some processor comes online.
   abbrev pub empty_for_mask : CpuMask → CpuMask → ℕ → Bool
-  empty_for_mask old new l =
-      (has old l && not (has new l))
+  empty_for_mask old new l = (has old l && not (has new l))
       || (list_any (λ home. home == l) q.homes && came_on old new)
 
   -- Whether a lane has to be empty for a change of a setting: for the online mask as
   -- `empty_for_mask` says, and each lane for any other word.
   abbrev pub must_be_empty : (ℕ → ℕ) → ℕ → ℕ → ℕ → Bool
-  must_be_empty s w v l =
-      if w == online_word then empty_for_mask (online s) (mask v) l else true
+  must_be_empty s w v l = if w == online_word then empty_for_mask (online s) (mask v) l else true
 
   -- How a receive board steers.
   abbrev pub receive_steering : Steering
-  receive_steering =
-      record {
-        flow = q.flow;
-        to = q.app;
-        shape = λ s p. if nat_lt p queues then s (flows_word p) else 0;
-        class = λ shape f. class_of (shape % 2 ^ 32) (q.hash f);
-        plain = rps;
+  receive_steering = record {
+        flow = q.flow; to = q.app; shape = λ s p. if nat_lt p queues then s (flows_word p) else 0;
+        class = λ shape f. class_of (shape % 2 ^ 32) (q.hash f); plain = rps;
         desired = λ s p f want. desired_cpu (Some 0) want (online s) (rps s p f);
-        online = λ s l. has (online s) l;
-        affects = must_be_empty;
-      }
+        online = λ s l. has (online s) l; affects = must_be_empty; }
 
 -- A packet is to go to an online processor if its queue's home is online.
 abbrev pub GoalsAreOnline : Type 0
-GoalsAreOnline =
-    (q : Queues) (s : ℕ → ℕ) (p f : ℕ) (class want : Option ℕ) → p < queues q
+GoalsAreOnline = (q : Queues) (s : ℕ → ℕ) (p f : ℕ) (class want : Option ℕ) → p < queues q
     → has (online q s) (slice_index q.homes p) ≡ true
     → has (online q s) (goal_of (receive_steering q) s p f class want) ≡ true

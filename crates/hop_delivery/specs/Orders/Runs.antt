@@ -1,21 +1,14 @@
 -- What producers did on a board, and how settings steer their packets (kernel scaling chapter,
 -- sections RPS, RFS and XPS).
-use Rattle.std.specs.Prelude.{◌≡◌, ◌≢◌, ℕ, ◌<◌, ◌/◌, ◌%◌, ◌^◌, Bool, true, false, List, Option}
-use Rattle.std.specs.Prelude.{Some}
-use Rattle.std.specs.Prelude.{None, take, drop}
-use Rattle.std.specs.List.{Contains}
-use Rattle.steer_base.specs.Choices.{migrate}
-use Rattle.steer_base.specs.Entries.{entry, of_class, current_lane}
+use Rattle.std.specs.{List.Contains, Prelude.◌≡◌, Prelude.◌≢◌, Prelude.ℕ, Prelude.◌<◌, Prelude.◌/◌}
+use Rattle.std.specs.Prelude.{◌%◌, ◌^◌, Bool, true, false, List, Option, Some, None, take, drop}
+use Rattle.steer_base.specs.{Choices.migrate, Entries.entry, Entries.of_class, Entries.current_lane}
 use Rattle.steer_base.specs.declared.choice.Chosen.{Chosen}
 use Rattle.linearization.specs.Orders.{StepBy, steps_of}
 use Rattle.dev_flow_table.specs.Walks.{since_resize}
-use Rattle.hop_rule.specs.Boards.{gate_steps}
-use Rattle.hop_rule.specs.Gates.{opened, own_settings, with_setting}
-use Rattle.hop_rule.specs.Moments.{nth_step}
-use Rattle.hop_rule.specs.Sizes.{closer}
-use Rattle.hop_rule.specs.declared.sizes.BoardSizes.{BoardSizes}
-use Rattle.hop_rule.specs.declared.step.BoardStep.{BoardStep}
-use Rattle.hop_rule.specs.declared.step.BoardStep.TheVariants.{Weighed}
+use Rattle.hop_rule.specs.{Boards.gate_steps, Gates.opened, Gates.own_settings, Gates.with_setting}
+use Rattle.hop_rule.specs.{Moments.nth_step, Sizes.closer, declared.sizes.BoardSizes.BoardSizes}
+use Rattle.hop_rule.specs.declared.step.BoardStep.{BoardStep, TheVariants.Weighed}
 use Rattle.hop_delivery.specs.Orders.Turns.{Turn}
 
 -- What producers did: for each producer the packets that arrived and the choices, the oldest first,
@@ -93,16 +86,14 @@ module _ (about : BoardSizes) (own : ℕ → List BoardStep) where
 
     -- The lane to which the packet of the producer's i-th turn is to go.
     abbrev pub goal_at : ℕ → ℕ → Turn → ℕ
-    goal_at p i u =
-        goal_of r (settings_at p i) p (flow_at u) (class_at p i u) u.chosen.choice.want
+    goal_at p i u = goal_of r (settings_at p i) p (flow_at u) (class_at p i u) u.chosen.choice.want
 
     -- The choice of the producer's i-th turn is by the migration rule, with the settings of its
     -- visit, over the entry of its class. A head that it keeps was loaded in the visit, before the
     -- put, from the class's current lane. The lane to which the packet is to go is online.
     pub record IsByRule (p i : ℕ) (u : Turn) : Type 0 where
       pub head : ℕ
-      pub rule : u.chosen.choice
-          ≡ migrate (class_at p i u) u.chosen.choice.want (goal_at p i u)
+      pub rule : u.chosen.choice ≡ migrate (class_at p i u) u.chosen.choice.want (goal_at p i u)
           (entry about.start accepted (before p i)) (λ _. head) (r.online (settings_at p i))
       pub loaded : (k l : ℕ) → class_at p i u ≡ Some k
           → current_lane (of_class k (before p i)) ≡ Some l → u.chosen.choice.head ≡ Some head

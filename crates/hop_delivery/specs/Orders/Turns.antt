@@ -1,15 +1,12 @@
 -- A seat's own list explained by turns: all its puts, each in a visit of its own. Lists have the
 -- newest first.
 use Rattle.std.specs.Prelude.{◌≡◌, ℕ, List, [], ◌∷◌, ◌++◌, Option}
-use Rattle.steer_base.specs.declared.choice.Chosen.{Chosen}
-use Rattle.steer_base.specs.declared.put.Put.{Put}
+use Rattle.steer_base.specs.declared.{choice.Chosen.Chosen, put.Put.Put}
 use Rattle.linearization.specs.Orders.{StepBy}
-use Rattle.hop_rule.specs.declared.step.BoardStep.{BoardStep}
-use Rattle.hop_rule.specs.declared.step.BoardStep.TheVariants.{Lane, Gate}
-use Rattle.hop_rule.specs.declared.step.LaneStep.TheVariants.{Freed}
-use Rattle.hop_rule.specs.declared.step.GateStep.TheVariants.{Entered, Left}
-use Rattle.hop_rule.specs.declared.step.Change.TheVariants.{Offered}
 use Rattle.hop_rule.specs.Owns.{puts_of, visits_of}
+use Rattle.hop_rule.specs.declared.step.BoardStep.{BoardStep, TheVariants.Lane, TheVariants.Gate}
+use Rattle.hop_rule.specs.declared.step.{Change.TheVariants.Offered, GateStep.TheVariants.Entered}
+use Rattle.hop_rule.specs.declared.step.{GateStep.TheVariants.Left, LaneStep.TheVariants.Freed}
 
 -- A turn, one packet with its choice and its put: the word that the entry of its visit found, what
 -- the seat did between that entry and the put, the packet's hash, and the answer of the put.
