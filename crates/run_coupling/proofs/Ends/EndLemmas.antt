@@ -63,19 +63,7 @@ delivered-step l (Lane (Given o from id place)) g is =
     (sym (if_same from l (Some (delivery o id place)) None e) ∙ is) in
     (λ i. Lane (Given (same i).to (e i) (same i).id (same i).place)))
     (λ ne. none-some g (sym (if_other from l (Some (delivery o id place)) None ne) ∙ is))
-delivered-step l (Lane (Held i word found)) g is = none-some g is
-delivered-step l (Lane (Missed i word)) g is = none-some g is
-delivered-step l (Lane (Freed i change)) g is = none-some g is
-delivered-step l (Lane (OutHeld o word found)) g is = none-some g is
-delivered-step l (Lane (OutMissed o word)) g is = none-some g is
-delivered-step l (Lane (OutFreed o)) g is = none-some g is
-delivered-step l (Lane (Retired i word)) g is = none-some g is
-delivered-step l (Gate d) g is = none-some g is
-delivered-step l (Weighed i word) g is = none-some g is
-delivered-step l (Counted i word) g is = none-some g is
-delivered-step l (OutCounted o word) g is = none-some g is
-delivered-step l (LaneOut k) g is = none-some g is
-delivered-step l (LaneIn k) g is = none-some g is
+delivered-step l d g is = none-some g is
 
 -- ---- the end of a list's front
 

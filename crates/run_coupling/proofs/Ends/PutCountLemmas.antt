@@ -98,21 +98,7 @@ puts-fit lanes (Lane (Freed i (Offered id hash (Dropped number accepted pulled c
     ap (λ o. length (accepted_by p ds) + length (cons_option o (dropped_by p ds)))
     (if_other i p (Some id) None ne)) in
     omega arith
-puts-fit lanes (Lane (Freed i (Pulled id)) ∷ ds) = puts-fit lanes ds
-puts-fit lanes (Lane (Freed i Nothing) ∷ ds) = puts-fit lanes ds
-puts-fit lanes (Lane (Given o from id place) ∷ ds) = puts-fit lanes ds
-puts-fit lanes (Lane (Held l w x) ∷ ds) = puts-fit lanes ds
-puts-fit lanes (Lane (Missed l w) ∷ ds) = puts-fit lanes ds
-puts-fit lanes (Lane (OutHeld o w x) ∷ ds) = puts-fit lanes ds
-puts-fit lanes (Lane (OutMissed o w) ∷ ds) = puts-fit lanes ds
-puts-fit lanes (Lane (OutFreed o) ∷ ds) = puts-fit lanes ds
-puts-fit lanes (Lane (Retired l w) ∷ ds) = puts-fit lanes ds
-puts-fit lanes (Gate g ∷ ds) = puts-fit lanes ds
-puts-fit lanes (Weighed l w ∷ ds) = puts-fit lanes ds
-puts-fit lanes (Counted l w ∷ ds) = puts-fit lanes ds
-puts-fit lanes (OutCounted o w ∷ ds) = puts-fit lanes ds
-puts-fit lanes (LaneOut k ∷ ds) = puts-fit lanes ds
-puts-fit lanes (LaneIn k ∷ ds) = puts-fit lanes ds
+puts-fit lanes (d ∷ ds) = puts-fit lanes ds
 
 -- each turn is one put
 puts-counted : (ds : List BoardStep) (ts : List (StepBy Turn)) → Explained ds ts

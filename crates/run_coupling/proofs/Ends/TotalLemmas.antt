@@ -103,19 +103,7 @@ module _ (about : BoardSizes) (own : ℕ → List BoardStep) (lists : BoardLists
     (outs : OutsAreSums about own lists) where
   gives-in : (q k : ℕ) (d : BoardStep) → Has (own q) k d → GivesIn about.outs about.lanes d
   gives-in q k (Lane (Given o from id place)) does = gives q k o from id place does
-  gives-in q k (Lane (Held l w x)) does = tt
-  gives-in q k (Lane (Missed l w)) does = tt
-  gives-in q k (Lane (Freed l c)) does = tt
-  gives-in q k (Lane (OutHeld o w x)) does = tt
-  gives-in q k (Lane (OutMissed o w)) does = tt
-  gives-in q k (Lane (OutFreed o)) does = tt
-  gives-in q k (Lane (Retired l w)) does = tt
-  gives-in q k (Gate g) does = tt
-  gives-in q k (Weighed l w) does = tt
-  gives-in q k (Counted l w) does = tt
-  gives-in q k (OutCounted o w) does = tt
-  gives-in q k (LaneOut n) does = tt
-  gives-in q k (LaneIn n) does = tt
+  gives-in q k d does = tt
 
   -- only the lane's own seat delivers from it
   none-by-others : (q l : ℕ) → q ≢ puller about l → length (delivered_by l (own q)) ≡ 0

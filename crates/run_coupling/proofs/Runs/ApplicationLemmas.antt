@@ -48,14 +48,7 @@ names-maps i (give.XCpus tx mask) within =
 names-maps i (give.XQueues tx rxqs) within =
     ltb-true tx (length i.plan.tx)
     (and-first (nat_lt tx (length i.plan.tx)) (nat_lt rxqs (2 ^ length i.plan.queues)) within)
-names-maps i (give.Mask q mask) within = tt
-names-maps i (give.Flows q count) within = tt
-names-maps i (give.Sock size) within = tt
-names-maps i (give.Offline cpu) within = tt
-names-maps i (give.Online cpu) within = tt
-names-maps i (give.Reta place q) within = tt
-names-maps i (give.Stand app cpu) within = tt
-names-maps i give.Expire within = tt
+names-maps i c within = tt
 
 pub all_name_maps : (i : Input) (ts : List Try)
     → All (λ (t : Try). IsWithinPlan i.plan t.given.command) ts

@@ -30,12 +30,7 @@ shared = record {
 
 code-is : (w : HintWord) → code_of shared w ≡ hint_number w
 code-is (word.Socket place) = refl
-code-is (word.Redirection place) = refl
-code-is (word.Stand app) = refl
-code-is (word.Filter place) = refl
-code-is word.Done = refl
-code-is (word.Queue id) = refl
-code-is (word.Steered id) = refl
+code-is w = refl
 
 pub are-shared : AreShared shared
 are-shared =

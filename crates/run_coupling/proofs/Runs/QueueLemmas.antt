@@ -74,14 +74,7 @@ names-queues i (give.Flows q count) within =
     both : (a : Bool) {b : Bool} → (a && b) ≡ true → (a ≡ true) × (b ≡ true)
     both true e = (refl, e)
     both false e = absurd (cc)
-names-queues i (give.Sock size) within = tt
-names-queues i (give.Offline cpu) within = tt
-names-queues i (give.Online cpu) within = tt
-names-queues i (give.XCpus tx mask) within = tt
-names-queues i (give.XQueues tx rxqs) within = tt
-names-queues i (give.Reta place q) within = tt
-names-queues i (give.Stand app cpu) within = tt
-names-queues i give.Expire within = tt
+names-queues i c within = tt
 
 pub all_name_queues : (i : Input) (ts : List Try)
     → All (λ (t : Try). IsWithinPlan i.plan t.given.command) ts
@@ -102,14 +95,7 @@ names-cpu i (give.Offline cpu) within =
 names-cpu i (give.Online cpu) within =
     let few = i.plan.within.cpus_within in
     let named = ltb-true cpu i.plan.cpus within in omega arith
-names-cpu i (give.Mask q mask) within = tt
-names-cpu i (give.Flows q count) within = tt
-names-cpu i (give.Sock size) within = tt
-names-cpu i (give.XCpus tx mask) within = tt
-names-cpu i (give.XQueues tx rxqs) within = tt
-names-cpu i (give.Reta place q) within = tt
-names-cpu i (give.Stand app cpu) within = tt
-names-cpu i give.Expire within = tt
+names-cpu i c within = tt
 
 all_name_cpus : (i : Input) (ts : List Try)
     → All (λ (t : Try). IsWithinPlan i.plan t.given.command) ts
@@ -347,19 +333,7 @@ module _ (i : Input) (h : History) (about : BoardSizes) (own : ℕ → List Boar
       stand.delivered-to about own lists facts (app_for (setup_in i)) right q k o from id place does
       ∙ sym (ap (λ a. app_of a (setup_in i).apps)
       (hashes id (delivered-known q k o from id place does)))
-  goes-right q k (Lane (Held l w x)) does = tt
-  goes-right q k (Lane (Missed l w)) does = tt
-  goes-right q k (Lane (Freed l c)) does = tt
-  goes-right q k (Lane (OutHeld o w x)) does = tt
-  goes-right q k (Lane (OutMissed o w)) does = tt
-  goes-right q k (Lane (OutFreed o)) does = tt
-  goes-right q k (Lane (Retired l w)) does = tt
-  goes-right q k (Gate g) does = tt
-  goes-right q k (Weighed l w) does = tt
-  goes-right q k (Counted l w) does = tt
-  goes-right q k (OutCounted o w) does = tt
-  goes-right q k (LaneOut n) does = tt
-  goes-right q k (LaneIn n) does = tt
+  goes-right q k d does = tt
 
   pub meets-premises : MeetsPremises about own (accepted_left lists) t r
   meets-premises =

@@ -132,19 +132,7 @@ module _ (about : BoardSizes) (r : Steering) where
   finds-none before (Gate (Set i v)) quiet =
       let n : suc zero ≡ zero = ap (λ (b : Bool). if b then suc zero else zero) quiet in
       absurd (omega (arith, n))
-  finds-none before (Gate (Entered w)) quiet = tt
-  finds-none before (Gate (Turned w)) quiet = tt
-  finds-none before (Gate Left) quiet = tt
-  finds-none before (Gate (Shut w)) quiet = tt
-  finds-none before (Gate (NotShut w)) quiet = tt
-  finds-none before (Gate Opened) quiet = tt
-  finds-none before (Gate (Read i v)) quiet = tt
-  finds-none before (Lane d) quiet = tt
-  finds-none before (Weighed l w) quiet = tt
-  finds-none before (Counted l w) quiet = tt
-  finds-none before (OutCounted o w) quiet = tt
-  finds-none before (LaneOut k) quiet = tt
-  finds-none before (LaneIn k) quiet = tt
+  finds-none before d quiet = tt
 
   all-quiet : (xs ys : List BoardStep) → NoSets xs → AllFindEmpty about r ys
       → AllFindEmpty about r (xs ++ ys)

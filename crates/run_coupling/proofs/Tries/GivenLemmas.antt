@@ -44,32 +44,7 @@ module _ (plan : Plan) where
           → All (IsWithinPlan plan) (cons_option (command_in s) (filter_map command_in ss))
       by_step (step.Give c) within rest =
           All-cons (IsWithinPlan plan) c (filter_map command_in ss) within rest
-      by_step step.Arrive within rest = rest
-      by_step (step.Take queue) within rest = rest
-      by_step (step.Enter queue) within rest = rest
-      by_step (step.Look queue) within rest = rest
-      by_step (step.Weigh queue) within rest = rest
-      by_step (step.Put queue) within rest = rest
-      by_step (step.Ask queue) within rest = rest
-      by_step (step.Leave queue) within rest = rest
-      by_step (step.Pull cpu) within rest = rest
-      by_step (step.Deliver cpu) within rest = rest
-      by_step (step.Retire cpu) within rest = rest
-      by_step (step.Record flow) within rest = rest
-      by_step (step.Send app) within rest = rest
-      by_step (step.TEnter app) within rest = rest
-      by_step (step.TLeave app) within rest = rest
-      by_step (step.TWeigh app) within rest = rest
-      by_step (step.TPut app) within rest = rest
-      by_step (step.TPull tx) within rest = rest
-      by_step (step.TDeliver tx) within rest = rest
-      by_step (step.TRetire tx) within rest = rest
-      by_step (step.Poll queue) within rest = rest
-      by_step (step.Drain cpu) within rest = rest
-      by_step (step.Reply app) within rest = rest
-      by_step (step.Serve app) within rest = rest
-      by_step (step.Ship tx) within rest = rest
-      by_step step.Sweep within rest = rest
+      by_step s within rest = rest
 
   given-within : (tries : ℕ) (cs : List Command) (given : List Commanded)
       → All (IsWithinPlan plan) cs → AreGiven tries cs given

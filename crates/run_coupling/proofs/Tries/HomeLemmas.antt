@@ -87,14 +87,7 @@ module _ (i : Input) where
       let named = ltb-true cpu i.plan.cpus within in
       has-with_cpu s.online cpu (slice_index homes p) (omega arith)
       ∙ ap (λ b. b || (nat_lt (slice_index homes p) 32 && cpu == slice_index homes p)) (on p less)
-  homes_changed s (give.Mask q mask) within free on p less = on p less
-  homes_changed s (give.Flows q count) within free on p less = on p less
-  homes_changed s (give.Sock size) within free on p less = on p less
-  homes_changed s (give.XCpus tx mask) within free on p less = on p less
-  homes_changed s (give.XQueues tx queues) within free on p less = on p less
-  homes_changed s (give.Reta place q) within free on p less = on p less
-  homes_changed s (give.Stand app cpu) within free on p less = on p less
-  homes_changed s give.Expire within free on p less = on p less
+  homes_changed s c within free on p less = on p less
 
   first-homes : (qs : List QueuePlan) (p : ℕ) → All (QueueIsWithin i.plan.cpus) qs
       → p < length (map (λ (q : QueuePlan). q.home) qs)

@@ -237,39 +237,10 @@ module _ (plan : Plan) where
             or_lt plan.cpus s.online.0 (2 ^ cpu) f.online
             (below-power cpu plan.cpus (ltb-true cpu plan.cpus within));
       }
-  fit_changed s (give.XCpus tx mask) within f =
+  fit_changed s c within f =
       record {
-        masks = f.masks;
-        counts = f.counts;
-        rounded = f.rounded;
-        sock = f.sock;
-        online = f.online;
+        masks = f.masks; counts = f.counts; rounded = f.rounded; sock = f.sock; online = f.online;
       }
-  fit_changed s (give.XQueues tx queues) within f =
-      record {
-        masks = f.masks;
-        counts = f.counts;
-        rounded = f.rounded;
-        sock = f.sock;
-        online = f.online;
-      }
-  fit_changed s (give.Reta place q) within f =
-      record {
-        masks = f.masks;
-        counts = f.counts;
-        rounded = f.rounded;
-        sock = f.sock;
-        online = f.online;
-      }
-  fit_changed s (give.Stand app cpu) within f =
-      record {
-        masks = f.masks;
-        counts = f.counts;
-        rounded = f.rounded;
-        sock = f.sock;
-        online = f.online;
-      }
-  fit_changed s give.Expire within f = f
 
   first-masks : (qs : List QueuePlan) (p : ℕ) → All (QueueIsWithin plan.cpus) qs
       → (slice_index_or (map (λ (q : QueuePlan). q.mask) qs) p (record { 0 = 0 })).0 < 2 ^ plan.cpus
@@ -344,21 +315,7 @@ module _ (plan : Plan) where
             set-number (λ n. n < 2 ^ length plan.queues) s.maps.queues tx y queues
             (ltb-true queues (2 ^ length plan.queues) b.1) (f.queue_sets y);
       }
-  maps_changed s (give.Mask q mask) within f = record
-      { cpu_sets = f.cpu_sets; queue_sets = f.queue_sets }
-  maps_changed s (give.Flows q n) within f = record
-      { cpu_sets = f.cpu_sets; queue_sets = f.queue_sets }
-  maps_changed s (give.Sock n) within f = record
-      { cpu_sets = f.cpu_sets; queue_sets = f.queue_sets }
-  maps_changed s (give.Offline cpu) within f = record
-      { cpu_sets = f.cpu_sets; queue_sets = f.queue_sets }
-  maps_changed s (give.Online cpu) within f = record
-      { cpu_sets = f.cpu_sets; queue_sets = f.queue_sets }
-  maps_changed s (give.Reta place q) within f = record
-      { cpu_sets = f.cpu_sets; queue_sets = f.queue_sets }
-  maps_changed s (give.Stand app cpu) within f = record
-      { cpu_sets = f.cpu_sets; queue_sets = f.queue_sets }
-  maps_changed s give.Expire within f = f
+  maps_changed s c within f = record { cpu_sets = f.cpu_sets; queue_sets = f.queue_sets }
 
   first-cpu_sets : (ts : List TxPlan) (tx : ℕ)
       → All (TxIsWithin plan.cpus (length plan.queues)) ts

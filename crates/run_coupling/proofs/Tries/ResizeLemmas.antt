@@ -43,15 +43,7 @@ counts-changed p s (give.Flows r n) other =
         is-not eq =
             let n : suc zero ≡ zero = ap (λ (b : Bool). if b then suc zero else zero) eq in
             absurd (omega (arith, n))
-counts-changed p s (give.Mask r mask) other = refl
-counts-changed p s (give.Sock n) other = refl
-counts-changed p s (give.Offline cpu) other = refl
-counts-changed p s (give.Online cpu) other = refl
-counts-changed p s (give.XCpus tx cpus) other = refl
-counts-changed p s (give.XQueues tx rxqs) other = refl
-counts-changed p s (give.Reta place r) other = refl
-counts-changed p s (give.Stand app cpu) other = refl
-counts-changed p s give.Expire other = refl
+counts-changed p s c other = refl
 
 and-false : (b : Bool) → (b && false) ≡ false
 and-false true = refl

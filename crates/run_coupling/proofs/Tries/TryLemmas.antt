@@ -42,24 +42,12 @@ pub own-makings : (about : BoardSizes) (gs : List GateStep)
     → own_settings about gs ≡ own_settings about (filter_map set_or_opening gs)
 own-makings about [] = refl
 own-makings about (Set i v ∷ gs) = ap (λ s. with_setting s i v) (own-makings about gs)
-own-makings about (Opened ∷ gs) = own-makings about gs
-own-makings about (Entered w ∷ gs) = own-makings about gs
-own-makings about (Turned w ∷ gs) = own-makings about gs
-own-makings about (Left ∷ gs) = own-makings about gs
-own-makings about (Shut w ∷ gs) = own-makings about gs
-own-makings about (NotShut w ∷ gs) = own-makings about gs
-own-makings about (Read i v ∷ gs) = own-makings about gs
+own-makings about (g ∷ gs) = own-makings about gs
 
 pub openings-makings : (gs : List GateStep) → openings gs ≡ openings (filter_map set_or_opening gs)
 openings-makings [] = refl
-openings-makings (Set i v ∷ gs) = openings-makings gs
 openings-makings (Opened ∷ gs) = ap (λ n. n + 1) (openings-makings gs)
-openings-makings (Entered w ∷ gs) = openings-makings gs
-openings-makings (Turned w ∷ gs) = openings-makings gs
-openings-makings (Left ∷ gs) = openings-makings gs
-openings-makings (Shut w ∷ gs) = openings-makings gs
-openings-makings (NotShut w ∷ gs) = openings-makings gs
-openings-makings (Read i v ∷ gs) = openings-makings gs
+openings-makings (g ∷ gs) = openings-makings gs
 
 pub opened-makings : (about : BoardSizes) (n : ℕ) (gs : List GateStep)
     → own_settings about (opened n gs)
@@ -81,12 +69,7 @@ opened-makings about n (Opened ∷ gs) =
     ∙ sym (ap (own_settings about)
     (if_other (openings ms + 1) n (Opened ∷ ms) (opened n ms)
     (λ e. ne (ap (λ k. k + 1) same ∙ e))))))
-opened-makings about n (Entered w ∷ gs) = opened-makings about n gs
-opened-makings about n (Turned w ∷ gs) = opened-makings about n gs
-opened-makings about n (Left ∷ gs) = opened-makings about n gs
-opened-makings about n (Shut w ∷ gs) = opened-makings about n gs
-opened-makings about n (NotShut w ∷ gs) = opened-makings about n gs
-opened-makings about n (Read i v ∷ gs) = opened-makings about n gs
+opened-makings about n (g ∷ gs) = opened-makings about n gs
 
 pub makings-append : (xs ys : List BoardStep) → sets_and_openings (xs ++ ys)
     ≡ sets_and_openings xs ++ sets_and_openings ys

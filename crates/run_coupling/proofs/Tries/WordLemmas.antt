@@ -177,11 +177,7 @@ changes_with q s g w (give.Online cpu) fits some a =
     AreReceiveWords q (changed s (give.Online cpu)) g
     (with_setting w (2 * queues q + 1) (with_cpu (record { 0 = n }) cpu).0))
     (sym a.online) (after-online q s g w a (with_cpu s.online cpu))
-changes_with q s g w (give.XCpus tx cpus) fits some a = absurd (omega arith)
-changes_with q s g w (give.XQueues tx rxqs) fits some a = absurd (omega arith)
-changes_with q s g w (give.Reta place r) fits some a = absurd (omega arith)
-changes_with q s g w (give.Stand app cpu) fits some a = absurd (omega arith)
-changes_with q s g w give.Expire fits some a = absurd (omega arith)
+changes_with q s g w c fits some a = absurd (omega arith)
 
 -- a done command that makes none
 changes_none : (q : Queues) (s : Settings) (g : ℕ → ℕ) (w : ℕ → ℕ) (c : Command)
@@ -192,11 +188,7 @@ changes_none q s g w (give.Flows r n) none a = absurd (omega arith)
 changes_none q s g w (give.Sock n) none a = absurd (omega arith)
 changes_none q s g w (give.Offline cpu) none a = absurd (omega arith)
 changes_none q s g w (give.Online cpu) none a = absurd (omega arith)
-changes_none q s g w (give.XCpus tx cpus) none a = same_words q s _ g w refl refl refl refl a
-changes_none q s g w (give.XQueues tx rxqs) none a = same_words q s _ g w refl refl refl refl a
-changes_none q s g w (give.Reta place r) none a = same_words q s _ g w refl refl refl refl a
-changes_none q s g w (give.Stand app cpu) none a = same_words q s _ g w refl refl refl refl a
-changes_none q s g w give.Expire none a = same_words q s _ g w refl refl refl refl a
+changes_none q s g w c none a = same_words q s _ g w refl refl refl refl a
 
 -- a resize is a done command for the flow count
 gens-done : (t : Try) (ts : List Try) (p : ℕ) → is_done t.given.answer ≡ true
