@@ -15,12 +15,10 @@ use Rattle.run_coupling.proofs.Names.{Option, Some, None, length, map, All, sym,
 use Rattle.run_coupling.proofs.Names.{arith, slice_get, cons_option, filter_map, All-from_get_or}
 use Rattle.run_coupling.proofs.Names.{dite, ℕ_discrete, if_same, if_other, LaneDrop, is_in, lane_at}
 use Rattle.run_coupling.proofs.Names.{Delivery, delivery, nth_step, puller, BoardSizes, BoardStep}
-use Rattle.run_coupling.proofs.Names.{Lane, Gate, Weighed, Counted, OutCounted, LaneOut, LaneIn}
-use Rattle.run_coupling.proofs.Names.{Held, Missed, Freed, OutHeld, OutMissed, OutFreed, Given}
-use Rattle.run_coupling.proofs.Names.{Retired, none-some, some-is, nth-inside, nth-old, nth-some}
-use Rattle.run_coupling.proofs.Names.{DeliveriesHavePlaces, LanesAreInTurn, LanesAreServedByOne}
-use Rattle.run_coupling.proofs.Names.{ListsAreCounted, Has, delivered_by, delivered_in}
-use Rattle.run_coupling.proofs.Names.{CountsAreSums, BoardLists, retired_count}
+use Rattle.run_coupling.proofs.Names.{Lane, Given, none-some, some-is, nth-inside, nth-old}
+use Rattle.run_coupling.proofs.Names.{nth-some, DeliveriesHavePlaces, LanesAreInTurn}
+use Rattle.run_coupling.proofs.Names.{LanesAreServedByOne, ListsAreCounted, Has, delivered_by}
+use Rattle.run_coupling.proofs.Names.{delivered_in, CountsAreSums, BoardLists, retired_count}
 use Rattle.run_coupling.proofs.Lists.SumLemmas.{each-equal}
 use Rattle.run_coupling.specs.Laws.Ends.{TotalsSuffice, WasDelivered}
 use Rattle.run_coupling.specs.Coupling.Ends.{accepted_count, AllRetired}
@@ -119,11 +117,7 @@ module _ (about : BoardSizes) (own : ℕ → List BoardStep) (lists : BoardLists
       step.2 ∙ (ap (λ d. Some d) is ∙ (λ i. Some (Lane (Given g.0.to l (same i) g.0.place)))) in
       let p = places.stand (puller about l) step.0 g.0.to l id g.0.place does in
       record {
-        to = g.0.to;
-        index = g.0.place - 1;
-        step = step.0;
-        place = g.0.place;
-        does = does;
+        to = g.0.to; index = g.0.place - 1; step = step.0; place = g.0.place; does = does;
         stands = p.stands;
       }
 

@@ -125,8 +125,7 @@ module _ (about : BoardSizes) (own : ℕ → List BoardStep) (lists : BoardLists
       low l (max 1 (about.seats - 1)) (omega arith)
       (omega arith)
     where
-      low : (l m : ℕ) → 0 < m → m ≤ about.seats
-          → l % m < about.seats
+      low : (l m : ℕ) → 0 < m → m ≤ about.seats → l % m < about.seats
       low l m some le =
           let small = mod-lt l {m = m} some in omega arith
 
@@ -178,5 +177,4 @@ module _ (about : BoardSizes) (own : ℕ → List BoardStep) (lists : BoardLists
         let t1 = t.delivered in
         let t2 = t.pulled in omega arith)) in
         each-equal (λ k. length (list_at h.sent k)) (λ k. length (list_at lists.outs k)) about.outs
-        below (total ∙ (sym done ∙ sym all-delivered)) a less
-        ∙ outs a less
+        below (total ∙ (sym done ∙ sym all-delivered)) a less ∙ outs a less

@@ -11,10 +11,9 @@ use Rattle.run_coupling.specs.Laws.Replies.{RepliesHaveTurns}
 use Rattle.run_coupling.specs.Coupling.Applications.{FitTransmitWords}
 use Rattle.run_coupling.specs.Coupling.Runs.{TransmitCoupling}
 use Rattle.run_coupling.specs.Coupling.Tries.{at_transmit}
-use Rattle.run_coupling.proofs.Names.{◌≡◌, ◌≢◌, ◌⊎◌, inl, inr, ℕ, zero, suc, ◌+◌, ◌*◌, ◌/◌, ◌^◌}
-use Rattle.run_coupling.proofs.Names.{◌<◌, ◌≤◌, ◌&&◌, Bool, true, false, List, [], ◌∷◌, ◌++◌}
-use Rattle.run_coupling.proofs.Names.{Option, Some, None, length, map, All, sym, refl, ap, ◌∙◌}
-use Rattle.run_coupling.proofs.Names.{subst, arith, nat_lt, slice_get, slice_index, slice_index_or}
+use Rattle.run_coupling.proofs.Names.{◌≡◌, ℕ, zero, suc, ◌+◌, ◌*◌, ◌/◌, ◌^◌, ◌<◌, ◌&&◌, Bool, true}
+use Rattle.run_coupling.proofs.Names.{false, List, [], ◌∷◌, ◌++◌, Some, length, map, All, sym, refl}
+use Rattle.run_coupling.proofs.Names.{ap, ◌∙◌, subst, arith, nat_lt, slice_get, slice_index}
 use Rattle.run_coupling.proofs.Names.{ltb-true, All-cons, All-from_get_or, All-head, All-nil}
 use Rattle.run_coupling.proofs.Names.{All-tail, Chosen, Command, list_at, History, gate_steps}
 use Rattle.run_coupling.proofs.Names.{opened, own_settings, nth_step, closer, BoardSizes, BoardStep}
@@ -23,11 +22,11 @@ use Rattle.run_coupling.proofs.Names.{Steering, Execution, turns_of, Turn, Input
 use Rattle.run_coupling.proofs.Names.{Settings, initial_settings, AreTransmitWords}
 use Rattle.run_coupling.proofs.Names.{NamesTransmitQueues, Try, settings_by, tries_up_to}
 use Rattle.run_coupling.proofs.Names.{AreTurnsOf}
-use Rattle.run_coupling.proofs.Runs.TurnListLemmas.{ArriveOnce}
+use Rattle.run_coupling.proofs.Runs.TurnListLemmas.{ArriveOnce, turn-arrived, turn-chosen}
+use Rattle.run_coupling.proofs.Runs.TurnListLemmas.{turns-counted}
 use Rattle.run_coupling.proofs.Lists.PlaceLemmas.{StandOnce, at_index}
 use Rattle.run_coupling.proofs.Runs.FactLemmas.{BoardFacts}
 use Rattle.run_coupling.proofs.Runs.PutTurnLemmas.{put-of, turn-at}
-use Rattle.run_coupling.proofs.Runs.TurnListLemmas.{turn-arrived, turn-chosen, turns-counted}
 use Rattle.run_coupling.proofs.Tries.GivenLemmas.{all-back}
 use Rattle.run_coupling.proofs.Tries.MapLemmas.{pick-is}
 use Rattle.run_coupling.proofs.Tries.MapOpeningLemmas.{maps_of_opening}
@@ -178,9 +177,7 @@ module _ (i : Input) (h : History) (rx : BoardSizes) (rx_own : ℕ → List Boar
     seen-maps =
         let w = maps-upto n in
         record {
-          many = w.many;
-          cpu_maps = w.cpu_maps;
-          queue_maps = w.queue_maps;
+          many = w.many; cpu_maps = w.cpu_maps; queue_maps = w.queue_maps;
           cpus = λ tx less. read-is tx (omega arith) ∙ w.cpus tx less;
           queues = λ tx less. read-is (count + tx) (omega arith) ∙ w.queues tx less;
         }
@@ -215,8 +212,7 @@ module _ (i : Input) (h : History) (rx : BoardSizes) (rx_own : ℕ → List Boar
           s.0,
           s.1,
           sym s.2,
-          coupling.applications.picks a k u s.0 at s.1 fit-seen
-              ∙ ap (λ p. Some p)
+          coupling.applications.picks a k u s.0 at s.1 fit-seen ∙ ap (λ p. Some p)
               (pick-is count (after n) (seen a k) s.0.rxq s.0.cpu hash seen-maps
               ∙ sym (pick-is count (after n) (shown n) s.0.rxq s.0.cpu hash (maps-upto n))),
         )
@@ -245,7 +241,5 @@ module _ (i : Input) (h : History) (rx : BoardSizes) (rx_own : ℕ → List Boar
         journals = coupling.applications.choices;
         counted = turns-counted own t coupling.applications.turns;
         chosen = turn-chosen own t coupling.applications.turns;
-        few = few;
-        by_rule = rule-of;
-        replies = reply-of;
+        few = few; by_rule = rule-of; replies = reply-of;
       }

@@ -13,9 +13,7 @@ use Rattle.run_coupling.proofs.Names.{sym, refl, ap, ◌∙◌, subst, arith, na
 use Rattle.run_coupling.proofs.Names.{slice_index, range_with_len, ltb-true, length-map, All-cons}
 use Rattle.run_coupling.proofs.Names.{All-head, All-nil, All-tail, rounded_up, has, Command}
 use Rattle.run_coupling.proofs.Names.{CpuMask, Arrival, History, gate_steps, opened, own_settings}
-use Rattle.run_coupling.proofs.Names.{nth_step, closer, BoardSizes, BoardStep, Counted, Gate, Lane}
-use Rattle.run_coupling.proofs.Names.{LaneIn, LaneOut, OutCounted, Weighed, Freed, Given, Held}
-use Rattle.run_coupling.proofs.Names.{Missed, OutFreed, OutHeld, OutMissed, Retired, Has}
+use Rattle.run_coupling.proofs.Names.{nth_step, closer, BoardSizes, BoardStep, Lane, Given, Has}
 use Rattle.run_coupling.proofs.Names.{nth-inside, BoardLists, accepted_left, received_sets, Queues}
 use Rattle.run_coupling.proofs.Names.{queues, Steering, Execution, turns_of, Turn, QueuePlan, Input}
 use Rattle.run_coupling.proofs.Names.{setup_in, Settings, initial_settings, AreReceiveWords}
@@ -39,11 +37,11 @@ use Rattle.run_coupling.specs.Coupling.Inputs.{FlowsHaveOneHash, receive_queues}
 use Rattle.run_coupling.specs.Coupling.Queues.{FitReceiveWords, KeepsQueues}
 use Rattle.run_coupling.specs.Coupling.Tries.{KeepsReceiveTries, at_receive}
 use Rattle.run_coupling.proofs.Tries.ResizeLemmas.{resizes_by}
-use Rattle.run_coupling.proofs.Runs.TurnListLemmas.{ArriveOnce}
+use Rattle.run_coupling.proofs.Runs.TurnListLemmas.{ArriveOnce, turn-arrived, turn-chosen}
+use Rattle.run_coupling.proofs.Runs.TurnListLemmas.{turns-counted}
 use Rattle.run_coupling.proofs.Lists.PlaceLemmas.{AreNumbered, arrived_once, arrived_within}
 use Rattle.run_coupling.proofs.Lists.PlaceLemmas.{at_index}
 use Rattle.run_coupling.proofs.Runs.FactLemmas.{BoardFacts}
-use Rattle.run_coupling.proofs.Runs.TurnListLemmas.{turn-arrived, turn-chosen, turns-counted}
 use Rattle.run_coupling.proofs.Tries.EmptiedLemmas.{tries_find_empty}
 use Rattle.run_coupling.proofs.Tries.GivenLemmas.{all-back}
 use Rattle.run_coupling.proofs.Tries.HomeLemmas.{HomesOnline, homes_by}
@@ -163,9 +161,7 @@ module _ (i : Input) (h : History) (about : BoardSizes) (own : ℕ → List Boar
   pub are-turns : AreTurnsOf own t
   are-turns =
       record {
-        once = arrive-once;
-        explained = keeps.turns.explained;
-        by_seat = keeps.turns.by_seat;
+        once = arrive-once; explained = keeps.turns.explained; by_seat = keeps.turns.by_seat;
         arrived = turn-arrived own t keeps.turns;
       }
 
@@ -238,8 +234,7 @@ module _ (i : Input) (h : History) (about : BoardSizes) (own : ℕ → List Boar
     less : p < queues q
     less = turn-within p k u at
 
-    read-is : (word : ℕ) → Knows (own (t.seat p)) u word (z word)
-        → z word ≡ shown n word
+    read-is : (word : ℕ) → Knows (own (t.seat p)) u word (z word) → z word ≡ shown n word
     read-is word has =
         facts.turns_know t p k word (z word) u (keeps.turns.explained (t.seat p)) at has
 
@@ -272,8 +267,7 @@ module _ (i : Input) (h : History) (about : BoardSizes) (own : ℕ → List Boar
               (f.rounded p));
           sock = subst (λ m. m ≤ MAX_SOCKET_SIZE)
               (sym seen-sock) f.sock;
-          online =
-              subst (λ (m : CpuMask). m.0 < 2 ^ i.plan.cpus) (sym seen-online) f.online;
+          online = subst (λ (m : CpuMask). m.0 < 2 ^ i.plan.cpus) (sym seen-online) f.online;
         }
       where
         low : (c g : ℕ) → c < 2 ^ 32 → c ≤ MAX_FLOW_COUNT → (c + 2 ^ 32 * g) % 2 ^ 32
@@ -290,8 +284,7 @@ module _ (i : Input) (h : History) (about : BoardSizes) (own : ℕ → List Boar
 
     home-online : has (online q z) (slice_index q.homes p) ≡ true
     home-online =
-        ap (λ (m : CpuMask). has m (slice_index q.homes p)) seen-online
-        ∙ homes-upto n p less
+        ap (λ (m : CpuMask). has m (slice_index q.homes p)) seen-online ∙ homes-upto n p less
 
     pub rule-of : IsByRule about own (accepted_left lists) t r p k u
     rule-of =
@@ -308,9 +301,7 @@ module _ (i : Input) (h : History) (about : BoardSizes) (own : ℕ → List Boar
   choices-have-turns =
       record {
         explained = λ p. keeps.turns.explained (t.seat p);
-        journals = keeps.choices;
-        none = no-choices;
-        counted = turns-counted own t keeps.turns;
+        journals = keeps.choices; none = no-choices; counted = turns-counted own t keeps.turns;
         chosen = turn-chosen own t keeps.turns;
         known = λ p k u at.
             arrival-known p k u.chosen.id (turn-arrived own t keeps.turns p k u at);
@@ -338,11 +329,8 @@ module _ (i : Input) (h : History) (about : BoardSizes) (own : ℕ → List Boar
   pub meets-premises : MeetsPremises about own (accepted_left lists) t r
   meets-premises =
       record {
-        once = arrive-once;
-        explained = keeps.turns.explained;
-        by_seat = keeps.turns.by_seat;
-        arrived = turn-arrived own t keeps.turns;
-        chosen = turn-chosen own t keeps.turns;
+        once = arrive-once; explained = keeps.turns.explained; by_seat = keeps.turns.by_seat;
+        arrived = turn-arrived own t keeps.turns; chosen = turn-chosen own t keeps.turns;
         given = λ q. all-by-number (GoesRight r) (own q) (goes-right q);
         by_rule = rule-of;
         emptied =

@@ -2,8 +2,7 @@
 use Rattle.steer_base.specs.declared.step.Step.{Step}
 use Rattle.steer_base.specs.declared.step.Step.TheVariants as step
 use Rattle.plan_reader.specs.Plans.{sizes_of}
-use Rattle.plan_reader.specs.Ranges.{command_in, commands_of, step_is_within}
-use Rattle.plan_reader.specs.Ranges.{steps_in_list}
+use Rattle.plan_reader.specs.Ranges.{command_in, commands_of, step_is_within, steps_in_list}
 use Rattle.plan_reader.specs.declared.plan.Plan.{Plan}
 use Rattle.steer_model.specs.Good.Commands.{AreGiven}
 use Rattle.run_coupling.proofs.Names.{◌≡◌, ℕ, true, List, [], ◌∷◌, ◌++◌, map, All, sym, subst}
@@ -68,8 +67,7 @@ module _ (plan : Plan) where
           (sym (All-head (λ (g : Commanded). g.command ≡ c) g block same)) within)
           (same-within c block within (All-tail (λ (g : Commanded). g.command ≡ c) g block same))
 
-  tries-within : (ts : List Try)
-      → All (λ (g : Commanded). IsWithinPlan plan g.command)
+  tries-within : (ts : List Try) → All (λ (g : Commanded). IsWithinPlan plan g.command)
       (oldest_first (map (λ (t : Try). t.given) ts))
       → All (λ (t : Try). IsWithinPlan plan t.given.command) ts
   tries-within [] all = All-nil (λ (t : Try). IsWithinPlan plan t.given.command)

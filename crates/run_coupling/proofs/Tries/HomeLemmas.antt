@@ -22,8 +22,7 @@ use Rattle.run_coupling.proofs.Tries.RangeLemmas.{IsWithinPlan}
 
 -- the homes of these queues are online
 abbrev pub HomesOnline : List ℕ → Settings → Type 0
-HomesOnline homes s =
-    (p : ℕ) → p < length homes → has s.online (slice_index homes p) ≡ true
+HomesOnline homes s = (p : ℕ) → p < length homes → has s.online (slice_index homes p) ≡ true
 
 -- if no home is the processor, the home at an index is another
 none-there : (cpu : ℕ) (homes : List ℕ) → position (λ home. home == cpu) homes ≡ None
@@ -57,8 +56,7 @@ module _ (i : Input) where
 
   offline-free : (s : Settings) (cpu : ℕ) → refused_with i s (give.Offline cpu) ≡ None
       → (p : ℕ) → p < length homes → slice_index homes p ≢ cpu
-  offline-free s cpu free =
-      by_online (has s.online cpu) free
+  offline-free s cpu free = by_online (has s.online cpu) free
     where
       by_online : (b : Bool)
           → (if b then option_map (λ user. refused.CpuInUse user)
@@ -107,18 +105,15 @@ module _ (i : Input) where
   done-free : (h : History) (t : Try) (o : Option Refused) → is_done t.given.answer ≡ true
       → IsAnswered i h t o → o ≡ None
   done-free h t None done is = refl
-  done-free h t (Some (refused.CpuInUse user)) done is =
-      absurd (apart (sym (ap is_done is) ∙ done))
+  done-free h t (Some (refused.CpuInUse user)) done is = absurd (apart (sym (ap is_done is) ∙ done))
     where
       apart : false ≡ true → ⊥
       apart e = absurd (cc)
-  done-free h t (Some refused.CpuOffline) done is =
-      absurd (apart (sym (ap is_done is) ∙ done))
+  done-free h t (Some refused.CpuOffline) done is = absurd (apart (sym (ap is_done is) ∙ done))
     where
       apart : false ≡ true → ⊥
       apart e = absurd (cc)
-  done-free h t (Some refused.AlreadyOnline) done is =
-      absurd (apart (sym (ap is_done is) ∙ done))
+  done-free h t (Some refused.AlreadyOnline) done is = absurd (apart (sym (ap is_done is) ∙ done))
     where
       apart : false ≡ true → ⊥
       apart e = absurd (cc)
@@ -135,8 +130,7 @@ module _ (i : Input) where
     where
       by_done : (b : Bool) → is_done t.given.answer ≡ b
           → HomesOnline (setup_in i).homes (settings_by (initial_settings i.plan) ts)
-          → IsWithinPlan i.plan t.given.command
-          → IsAnswered i h t
+          → IsWithinPlan i.plan t.given.command → IsAnswered i h t
           (refused_with i (settings_by (initial_settings i.plan) ts) t.given.command)
           → HomesOnline (setup_in i).homes
           (if b then changed (settings_by (initial_settings i.plan) ts) t.given.command

@@ -64,8 +64,7 @@ pub rounded-sock : (n : ℕ) → n ≤ MAX_SOCKET_SIZE → rounded_up n ≤ MAX_
 rounded-sock n few = rounded-within n 16 few
 
 -- the search finds a power of two, if one is enough
-find-power : (n k from len : ℕ) → from ≤ k → k < from + len → n ≤ 2 ^ k
-    → IsPowerOfTwo
+find-power : (n k from len : ℕ) → from ≤ k → k < from + len → n ≤ 2 ^ k → IsPowerOfTwo
     (unwrap_or (find (λ power. nat_le n power) (map (λ i. 2 ^ i) (range_with_len from len))) 0)
 find-power n k from zero low high enough = absurd (omega arith)
 find-power n k from (suc len) low high enough =
@@ -189,10 +188,7 @@ module _ (plan : Plan) where
         masks = λ p.
             set-any (λ (m : CpuMask). m.0 < 2 ^ plan.cpus) s.masks q p mask (record { 0 = 0 }) small
             (f.masks p);
-        counts = f.counts;
-        rounded = f.rounded;
-        sock = f.sock;
-        online = f.online;
+        counts = f.counts; rounded = f.rounded; sock = f.sock; online = f.online;
       }
   fit_changed s (give.Flows q count) within f =
       let b = and-both (nat_lt q (length plan.queues)) (nat_lt count (MAX_FLOW_COUNT + 1)) within in
@@ -205,34 +201,24 @@ module _ (plan : Plan) where
         rounded = λ p.
             set-number (λ n. rounded_up n ≡ n) s.counts q p (rounded_up count)
             (rounded-again count (omega arith)) (f.rounded p);
-        sock = f.sock;
-        online = f.online;
+        sock = f.sock; online = f.online;
       }
   fit_changed s (give.Sock size) within f =
       let few = ltb-true size (MAX_SOCKET_SIZE + 1) within in
       record {
-        masks = f.masks;
-        counts = f.counts;
-        rounded = f.rounded;
-        sock = rounded-sock size (omega arith);
-        online = f.online;
+        masks = f.masks; counts = f.counts; rounded = f.rounded;
+        sock = rounded-sock size (omega arith); online = f.online;
       }
   fit_changed s (give.Offline cpu) within f =
       let less = and_le_l s.online.0 (2 ^ 32 - 1 - 2 ^ cpu) in
       let now = f.online in
       record {
-        masks = f.masks;
-        counts = f.counts;
-        rounded = f.rounded;
-        sock = f.sock;
+        masks = f.masks; counts = f.counts; rounded = f.rounded; sock = f.sock;
         online = omega arith;
       }
   fit_changed s (give.Online cpu) within f =
       record {
-        masks = f.masks;
-        counts = f.counts;
-        rounded = f.rounded;
-        sock = f.sock;
+        masks = f.masks; counts = f.counts; rounded = f.rounded; sock = f.sock;
         online =
             or_lt plan.cpus s.online.0 (2 ^ cpu) f.online
             (below-power cpu plan.cpus (ltb-true cpu plan.cpus within));
@@ -317,8 +303,7 @@ module _ (plan : Plan) where
       }
   maps_changed s c within f = record { cpu_sets = f.cpu_sets; queue_sets = f.queue_sets }
 
-  first-cpu_sets : (ts : List TxPlan) (tx : ℕ)
-      → All (TxIsWithin plan.cpus (length plan.queues)) ts
+  first-cpu_sets : (ts : List TxPlan) (tx : ℕ) → All (TxIsWithin plan.cpus (length plan.queues)) ts
       → (slice_index_or (map (λ (q : TxPlan). q.cpus) ts) tx no_cpus).0 < 2 ^ plan.cpus
   first-cpu_sets [] tx all = some-power plan.cpus
   first-cpu_sets (t ∷ ts) zero all =

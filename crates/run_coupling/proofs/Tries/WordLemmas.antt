@@ -38,8 +38,7 @@ module _ (q : Queues) (s : Settings) (g : ℕ → ℕ) (w : ℕ → ℕ) (a : Ar
   after-mask : (r : ℕ) (mask : CpuMask) → r < Q → After (give.Mask r mask)
   after-mask r mask within =
       record {
-        masks = length-set s.masks r mask ∙ a.masks;
-        counts = a.counts;
+        masks = length-set s.masks r mask ∙ a.masks; counts = a.counts;
         mask = λ p lt.
             dite (ℕ_discrete r p)
             (λ e.
@@ -108,8 +107,7 @@ module _ (q : Queues) (s : Settings) (g : ℕ → ℕ) (w : ℕ → ℕ) (a : Ar
   after-sock : (n : ℕ) → After (give.Sock n)
   after-sock n =
       record {
-        masks = a.masks;
-        counts = a.counts;
+        masks = a.masks; counts = a.counts;
         mask = λ p lt.
             if_other (2 * Q) p (rounded_up n) (w p) (λ e. absurd (omega arith)) ∙ a.mask p lt;
         flows = λ p lt.
@@ -127,16 +125,14 @@ module _ (q : Queues) (s : Settings) (g : ℕ → ℕ) (w : ℕ → ℕ) (a : Ar
       (with_setting w (2 * Q + 1) mask.0)
   after-online mask =
       record {
-        masks = a.masks;
-        counts = a.counts;
+        masks = a.masks; counts = a.counts;
         mask = λ p lt.
             if_other (2 * Q + 1) p mask.0 (w p) (λ e. absurd (omega arith)) ∙ a.mask p lt;
         flows = λ p lt.
             if_other (2 * Q + 1) (Q + p) mask.0 (w (Q + p)) (λ e. absurd (omega arith))
             ∙ a.flows p lt;
         small = a.small;
-        sock =
-            if_other (2 * Q + 1) (2 * Q) mask.0 (w (2 * Q)) (λ e. absurd (omega arith)) ∙ a.sock;
+        sock = if_other (2 * Q + 1) (2 * Q) mask.0 (w (2 * Q)) (λ e. absurd (omega arith)) ∙ a.sock;
         online = if_same (2 * Q + 1) (2 * Q + 1) mask.0 (w (2 * Q + 1)) refl;
       }
 
@@ -146,8 +142,7 @@ same_words : (q : Queues) (s z : Settings) (g : ℕ → ℕ) (w : ℕ → ℕ) �
     → AreReceiveWords q z g w
 same_words q s z g w masks counts sock online a =
     record {
-      masks = ap length masks ∙ a.masks;
-      counts = ap length counts ∙ a.counts;
+      masks = ap length masks ∙ a.masks; counts = ap length counts ∙ a.counts;
       mask = λ p lt.
           a.mask p lt
           ∙ sym (ap (λ (ms : List CpuMask).
