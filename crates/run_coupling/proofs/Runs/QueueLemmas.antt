@@ -7,15 +7,14 @@ use Rattle.steer_base.specs.declared.command.Command.TheVariants as give
 use Rattle.steer_base.specs.declared.limits.TheConstants.{MAX_FLOW_COUNT, MAX_SOCKET_SIZE}
 use Rattle.steer_base.specs.Apps.{app_of}
 use Rattle.steer_model.specs.State.Setup.{app_for}
-use Rattle.run_coupling.proofs.Names.{◌≡◌, inl, inr, ℕ, ◌+◌, ◌-◌, ◌*◌, ◌/◌, ◌^◌, ◌<◌, ◌≤◌, ◌&&◌}
-use Rattle.run_coupling.proofs.Names.{Bool, true, false, List, [], ◌∷◌, ◌++◌, Some, length, All}
-use Rattle.run_coupling.proofs.Names.{sym, refl, ap, ◌∙◌, subst, arith, nat_lt, slice_get}
-use Rattle.run_coupling.proofs.Names.{slice_index, range_with_len, ltb-true, length-map, All-cons}
-use Rattle.run_coupling.proofs.Names.{All-head, All-nil, All-tail, rounded_up, has, Command}
-use Rattle.run_coupling.proofs.Names.{CpuMask, Arrival, History, gate_steps, opened, own_settings}
-use Rattle.run_coupling.proofs.Names.{nth_step, closer, BoardSizes, BoardStep, Lane, Given, Has}
-use Rattle.run_coupling.proofs.Names.{nth-inside, BoardLists, accepted_left, received_sets, Queues}
-use Rattle.run_coupling.proofs.Names.{queues, Steering, Execution, turns_of, Turn, QueuePlan, Input}
+use Rattle.run_coupling.proofs.Names.{◌≡◌, inl, inr, ℕ, ◌+◌, ◌-◌, ◌*◌, ◌/◌, ◌^◌, ◌<◌, ◌≤◌, true}
+use Rattle.run_coupling.proofs.Names.{List, [], ◌∷◌, ◌++◌, Some, length, All, sym, ap, ◌∙◌, subst}
+use Rattle.run_coupling.proofs.Names.{arith, nat_lt, slice_get, slice_index, range_with_len}
+use Rattle.run_coupling.proofs.Names.{ltb-true, length-map, rounded_up, has, Command, CpuMask}
+use Rattle.run_coupling.proofs.Names.{Arrival, History, gate_steps, opened, own_settings, nth_step}
+use Rattle.run_coupling.proofs.Names.{closer, BoardSizes, BoardStep, Lane, Given, Has, nth-inside}
+use Rattle.run_coupling.proofs.Names.{BoardLists, accepted_left, received_sets, Queues, queues}
+use Rattle.run_coupling.proofs.Names.{Steering, Execution, turns_of, Turn, QueuePlan, Input}
 use Rattle.run_coupling.proofs.Names.{setup_in, Settings, initial_settings, AreReceiveWords}
 use Rattle.run_coupling.proofs.Names.{NamesReceiveQueues, Try, settings_by, tries_up_to, AreTurnsOf}
 use Rattle.run_coupling.proofs.Ends.TotalLemmas.{all-by-number}
@@ -43,9 +42,10 @@ use Rattle.run_coupling.proofs.Lists.PlaceLemmas.{AreNumbered, arrived_once, arr
 use Rattle.run_coupling.proofs.Lists.PlaceLemmas.{at_index}
 use Rattle.run_coupling.proofs.Runs.FactLemmas.{BoardFacts}
 use Rattle.run_coupling.proofs.Tries.EmptiedLemmas.{tries_find_empty}
-use Rattle.run_coupling.proofs.Tries.GivenLemmas.{all-back}
+use Rattle.run_coupling.proofs.Tries.GivenLemmas.{all-back, all-follow}
 use Rattle.run_coupling.proofs.Tries.HomeLemmas.{HomesOnline, homes_by}
-use Rattle.run_coupling.proofs.Tries.RangeLemmas.{FitSettings, IsWithinPlan, fit_by, rounded-flows}
+use Rattle.run_coupling.proofs.Tries.RangeLemmas.{FitSettings, IsWithinPlan, and-both, fit_by}
+use Rattle.run_coupling.proofs.Tries.RangeLemmas.{rounded-flows}
 use Rattle.run_coupling.proofs.Tries.TryLemmas.{first-tries}
 use Rattle.run_coupling.proofs.Tries.OpeningLemmas.{words_of_opening}
 
@@ -53,37 +53,26 @@ use Rattle.run_coupling.proofs.Tries.OpeningLemmas.{words_of_opening}
 names-queues : (i : Input) (c : Command) → IsWithinPlan i.plan c
     → NamesReceiveQueues (queues (receive_queues i)) c
 names-queues i (give.Mask q mask) within =
-    let b = both (nat_lt q (length i.plan.queues)) within in
+    let b = and-both (nat_lt q (length i.plan.queues)) (nat_lt mask.0 (2 ^ i.plan.cpus)) within in
     let less = ltb-true q (length i.plan.queues) b.0 in
     let size = length-map i.plan.queues (λ (queue : QueuePlan). queue.home) in
     omega arith
-  where
-    both : (a : Bool) {b : Bool} → (a && b) ≡ true → (a ≡ true) × (b ≡ true)
-    both true e = (refl, e)
-    both false e = absurd (cc)
 names-queues i (give.Flows q count) within =
-    let b = both (nat_lt q (length i.plan.queues)) within in
+    let b = and-both (nat_lt q (length i.plan.queues)) (nat_lt count (MAX_FLOW_COUNT + 1)) within in
     let less = ltb-true q (length i.plan.queues) b.0 in
     let few = ltb-true count (MAX_FLOW_COUNT + 1) b.1 in
     let size = length-map i.plan.queues (λ (queue : QueuePlan). queue.home) in
     let small = rounded-flows count (omega arith) in
     (omega arith, omega arith)
-  where
-    both : (a : Bool) {b : Bool} → (a && b) ≡ true → (a ≡ true) × (b ≡ true)
-    both true e = (refl, e)
-    both false e = absurd (cc)
 names-queues i c within = tt
 
 pub all_name_queues : (i : Input) (ts : List Try)
     → All (λ (t : Try). IsWithinPlan i.plan t.given.command) ts
     → All (λ (t : Try). NamesReceiveQueues (queues (receive_queues i)) t.given.command) ts
-all_name_queues i [] all =
-    All-nil (λ (t : Try). NamesReceiveQueues (queues (receive_queues i)) t.given.command)
-all_name_queues i (t ∷ ts) all =
-    All-cons (λ (t : Try). NamesReceiveQueues (queues (receive_queues i)) t.given.command) t ts
-    (names-queues i t.given.command
-    (All-head (λ (t : Try). IsWithinPlan i.plan t.given.command) t ts all))
-    (all_name_queues i ts (All-tail (λ (t : Try). IsWithinPlan i.plan t.given.command) t ts all))
+all_name_queues i =
+    all-follow (λ (t : Try). IsWithinPlan i.plan t.given.command)
+    (λ (t : Try). NamesReceiveQueues (queues (receive_queues i)) t.given.command)
+    (λ t. names-queues i t.given.command)
 
 -- a command of the plan names a processor below 32, if any
 names-cpu : (i : Input) (c : Command) → IsWithinPlan i.plan c → NamesCpu c
@@ -98,12 +87,9 @@ names-cpu i c within = tt
 all_name_cpus : (i : Input) (ts : List Try)
     → All (λ (t : Try). IsWithinPlan i.plan t.given.command) ts
     → All (λ (t : Try). NamesCpu t.given.command) ts
-all_name_cpus i [] all = All-nil (λ (t : Try). NamesCpu t.given.command)
-all_name_cpus i (t ∷ ts) all =
-    All-cons (λ (t : Try). NamesCpu t.given.command) t ts
-    (names-cpu i t.given.command
-    (All-head (λ (t : Try). IsWithinPlan i.plan t.given.command) t ts all))
-    (all_name_cpus i ts (All-tail (λ (t : Try). IsWithinPlan i.plan t.given.command) t ts all))
+all_name_cpus i =
+    all-follow (λ (t : Try). IsWithinPlan i.plan t.given.command)
+    (λ (t : Try). NamesCpu t.given.command) (λ t. names-cpu i t.given.command)
 
 answered-back : (i : Input) (h : History) (more ts : List Try) → AllAnswered i h (more ++ ts)
     → AllAnswered i h ts
@@ -127,17 +113,13 @@ module _ (i : Input) (h : History) (about : BoardSizes) (own : ℕ → List Boar
 
   -- ---- arrivals
 
-  pub numbered : AreNumbered 0 h.arrivals
-  numbered =
-      let a : length h.arrivals ≡ length i.packets =
-      sym (length-map h.arrivals (λ (a : Arrival). a.id))
-      ∙ (ap length arrived ∙ length-range_with_len 0 (length i.packets)) in
-      arrived ∙ ap (range_with_len 0) (sym a)
-
   pub arrivals-counted : length h.arrivals ≡ length i.packets
   arrivals-counted =
       sym (length-map h.arrivals (λ (a : Arrival). a.id))
       ∙ (ap length arrived ∙ length-range_with_len 0 (length i.packets))
+
+  pub numbered : AreNumbered 0 h.arrivals
+  numbered = arrived ∙ ap (range_with_len 0) (sym arrivals-counted)
 
   pub arrival-once : (p q j k x : ℕ) → slice_get (t.arrivals p) j ≡ Some x
       → slice_get (t.arrivals q) k ≡ Some x → (p ≡ q) × (j ≡ k)

@@ -28,6 +28,13 @@ all-joined P [] ys a b = b
 all-joined P (x ∷ xs) ys a b =
     All-cons P x (xs ++ ys) (All-head P x xs a) (all-joined P xs ys (All-tail P x xs a) b)
 
+pub all-follow : {A : Type 0} (P Q : A → Type 0) → ((x : A) → P x → Q x) → (xs : List A)
+    → All P xs → All Q xs
+all-follow P Q follow [] all = All-nil Q
+all-follow P Q follow (x ∷ xs) all =
+    All-cons Q x xs (follow x (All-head P x xs all))
+    (all-follow P Q follow xs (All-tail P x xs all))
+
 -- ---- the plan's commands
 
 module _ (plan : Plan) where
@@ -54,18 +61,11 @@ module _ (plan : Plan) where
   given-within tries (c ∷ cs) given all (block, rest, is, tried, older) =
       subst (All (λ (g : Commanded). IsWithinPlan plan g.command)) (sym is)
       (all-joined (λ (g : Commanded). IsWithinPlan plan g.command) block rest
-      (same-within c block (All-head (IsWithinPlan plan) c cs all) tried.same)
+      (all-follow (λ (g : Commanded). g.command ≡ c)
+      (λ (g : Commanded). IsWithinPlan plan g.command)
+      (λ g same. subst (IsWithinPlan plan) (sym same) (All-head (IsWithinPlan plan) c cs all)) block
+      tried.same)
       (given-within tries cs rest (All-tail (IsWithinPlan plan) c cs all) older))
-    where
-      same-within : (c : Command) (block : List Commanded) → IsWithinPlan plan c
-          → All (λ (g : Commanded). g.command ≡ c) block
-          → All (λ (g : Commanded). IsWithinPlan plan g.command) block
-      same-within c [] within same = All-nil (λ (g : Commanded). IsWithinPlan plan g.command)
-      same-within c (g ∷ block) within same =
-          All-cons (λ (g : Commanded). IsWithinPlan plan g.command) g block
-          (subst (IsWithinPlan plan)
-          (sym (All-head (λ (g : Commanded). g.command ≡ c) g block same)) within)
-          (same-within c block within (All-tail (λ (g : Commanded). g.command ≡ c) g block same))
 
   tries-within : (ts : List Try) → All (λ (g : Commanded). IsWithinPlan plan g.command)
       (oldest_first (map (λ (t : Try). t.given) ts))

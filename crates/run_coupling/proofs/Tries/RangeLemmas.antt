@@ -63,6 +63,13 @@ rounded-flows n few = rounded-within n 15 few
 pub rounded-sock : (n : ℕ) → n ≤ MAX_SOCKET_SIZE → rounded_up n ≤ MAX_SOCKET_SIZE
 rounded-sock n few = rounded-within n 16 few
 
+some-power : (n : ℕ) → 0 < 2 ^ n
+some-power n =
+    let least : 1 ≤ 2 ^ n = pow-le-pow_right {n = 2} (lit< tt) (zero-least n) in omega arith
+  where
+    zero-least : (m : ℕ) → 0 ≤ m
+    zero-least m = omega arith
+
 -- the search finds a power of two, if one is enough
 find-power : (n k from len : ℕ) → from ≤ k → k < from + len → n ≤ 2 ^ k → IsPowerOfTwo
     (unwrap_or (find (λ power. nat_le n power) (map (λ i. 2 ^ i) (range_with_len from len))) 0)
@@ -102,18 +109,11 @@ rounded-again n few =
   where
     again : (p : ℕ) → IsPowerOfTwo p → p ≤ 65536 → rounded_up p ≡ p
     again p power few =
-        let some : 0 < p = subst (λ m. 0 < m) (sym power.1) (some-of power.0) in
+        let some : 0 < p = subst (λ m. 0 < m) (sym power.1) (some-power power.0) in
         let other : p ≢ 0 = λ e. absurd (omega arith) in
         ap (λ b. if b then 0 else first_power p) (ne_eqb p 0 other)
         ∙ sym (first_power-next p p power some few (omega arith) (half p some))
       where
-        some-of : (k : ℕ) → 0 < 2 ^ k
-        some-of k =
-            let least : 1 ≤ 2 ^ k = pow-le-pow_right {n = 2} (lit< tt) (zero-least k) in omega arith
-          where
-            zero-least : (m : ℕ) → 0 ≤ m
-            zero-least m = omega arith
-
         half : (p : ℕ) → 0 < p → p / 2 < max 1 p
         half p some = omega arith
 
@@ -132,7 +132,7 @@ pub record FitMaps (cpus queues : ℕ) (s : Settings) : Type 0 where
   pub cpu_sets : (tx : ℕ) → (slice_index_or s.maps.cpus tx no_cpus).0 < 2 ^ cpus
   pub queue_sets : (tx : ℕ) → slice_index s.maps.queues tx < 2 ^ queues
 
-and-both : (a b : Bool) → (a && b) ≡ true → (a ≡ true) × (b ≡ true)
+pub and-both : (a b : Bool) → (a && b) ≡ true → (a ≡ true) × (b ≡ true)
 and-both true b e = (refl, e)
 and-both false b e = absurd (cc)
 
@@ -140,21 +140,10 @@ below-power : (m n : ℕ) → m < n → 2 ^ m < 2 ^ n
 below-power m n less =
     let up : 2 ^ suc m ≤ 2 ^ n = pow-le-pow_right {n = 2} (lit< tt) less in
     let double : 2 ^ suc m ≡ 2 ^ m + 2 ^ m = double-power m in
-    let some : 1 ≤ 2 ^ m = pow-le-pow_right {n = 2} (lit< tt) (least m) in
-    omega arith
+    let some = some-power m in omega arith
   where
     double-power : (m : ℕ) → 2 ^ suc m ≡ 2 ^ m + 2 ^ m
     double-power m = omega arith
-
-    least : (m : ℕ) → 0 ≤ m
-    least m = omega arith
-
-some-power : (n : ℕ) → 0 < 2 ^ n
-some-power n =
-    let least : 1 ≤ 2 ^ n = pow-le-pow_right {n = 2} (lit< tt) (zero-least n) in omega arith
-  where
-    zero-least : (m : ℕ) → 0 ≤ m
-    zero-least m = omega arith
 
 set-any : (P : CpuMask → Type 0) (xs : List CpuMask) (q p : ℕ) (x d : CpuMask) → P x
     → P (slice_index_or xs p d) → P (slice_index_or (slice_set xs q x) p d)

@@ -270,7 +270,8 @@ pub settings-given : (s : Settings) (ts : List Try)
 settings-given s [] = refl
 settings-given s (t ∷ ts) =
     ap (λ (z : Settings). if is_done t.given.answer then changed z t.given.command else z)
-    (settings-given s ts) ∙ sym (settings-append s (given_by ts) (t.given ∷ []))
+    (settings-given s ts)
+    ∙ sym (settings-append s (given_by ts) (t.given ∷ []))
 
 pub length-given : (ts : List Try) → length (given_by ts) ≡ length ts
 length-given ts = length-turned (map (λ t. t.given) ts) ∙ length-map-given ts
