@@ -25,8 +25,7 @@ arrivals-sum count (a ∷ rest) all =
     count
     a.queue (All-head (λ (a : Arrival). a.queue < count) a rest all)
     (λ p _ ne.
-    ap length (split-arrivals a rest p)
-    ∙ ap (λ b. length (if_there b a.id (arrivals_at rest p)))
+    ap length (split-arrivals a rest p) ∙ ap (λ b. length (if_there b a.id (arrivals_at rest p)))
     (ne_eqb a.queue p (λ q. ne (sym q)))) in
     omega arith
 

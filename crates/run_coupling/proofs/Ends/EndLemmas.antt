@@ -15,12 +15,10 @@ use Rattle.run_coupling.proofs.Names.{Option, Some, None, length, map, All, sym,
 use Rattle.run_coupling.proofs.Names.{arith, slice_get, cons_option, filter_map, All-from_get_or}
 use Rattle.run_coupling.proofs.Names.{dite, ℕ_discrete, if_same, if_other, LaneDrop, is_in, lane_at}
 use Rattle.run_coupling.proofs.Names.{Delivery, delivery, nth_step, puller, BoardSizes, BoardStep}
-use Rattle.run_coupling.proofs.Names.{Lane, Gate, Weighed, Counted, OutCounted, LaneOut, LaneIn}
-use Rattle.run_coupling.proofs.Names.{Held, Missed, Freed, OutHeld, OutMissed, OutFreed, Given}
-use Rattle.run_coupling.proofs.Names.{Retired, none-some, some-is, nth-inside, nth-old, nth-some}
-use Rattle.run_coupling.proofs.Names.{DeliveriesHavePlaces, LanesAreInTurn, LanesAreServedByOne}
-use Rattle.run_coupling.proofs.Names.{ListsAreCounted, Has, delivered_by, delivered_in}
-use Rattle.run_coupling.proofs.Names.{CountsAreSums, BoardLists, retired_count}
+use Rattle.run_coupling.proofs.Names.{Lane, Given, none-some, some-is, nth-inside, nth-old}
+use Rattle.run_coupling.proofs.Names.{nth-some, DeliveriesHavePlaces, LanesAreInTurn}
+use Rattle.run_coupling.proofs.Names.{LanesAreServedByOne, ListsAreCounted, Has, delivered_by}
+use Rattle.run_coupling.proofs.Names.{delivered_in, CountsAreSums, BoardLists, retired_count}
 use Rattle.run_coupling.proofs.Lists.SumLemmas.{each-equal}
 use Rattle.run_coupling.specs.Laws.Ends.{TotalsSuffice, WasDelivered}
 use Rattle.run_coupling.specs.Coupling.Ends.{accepted_count, AllRetired}
@@ -63,19 +61,7 @@ delivered-step l (Lane (Given o from id place)) g is =
     (sym (if_same from l (Some (delivery o id place)) None e) ∙ is) in
     (λ i. Lane (Given (same i).to (e i) (same i).id (same i).place)))
     (λ ne. none-some g (sym (if_other from l (Some (delivery o id place)) None ne) ∙ is))
-delivered-step l (Lane (Held i word found)) g is = none-some g is
-delivered-step l (Lane (Missed i word)) g is = none-some g is
-delivered-step l (Lane (Freed i change)) g is = none-some g is
-delivered-step l (Lane (OutHeld o word found)) g is = none-some g is
-delivered-step l (Lane (OutMissed o word)) g is = none-some g is
-delivered-step l (Lane (OutFreed o)) g is = none-some g is
-delivered-step l (Lane (Retired i word)) g is = none-some g is
-delivered-step l (Gate d) g is = none-some g is
-delivered-step l (Weighed i word) g is = none-some g is
-delivered-step l (Counted i word) g is = none-some g is
-delivered-step l (OutCounted o word) g is = none-some g is
-delivered-step l (LaneOut k) g is = none-some g is
-delivered-step l (LaneIn k) g is = none-some g is
+delivered-step l d g is = none-some g is
 
 -- ---- the end of a list's front
 
@@ -131,11 +117,7 @@ module _ (about : BoardSizes) (own : ℕ → List BoardStep) (lists : BoardLists
       step.2 ∙ (ap (λ d. Some d) is ∙ (λ i. Some (Lane (Given g.0.to l (same i) g.0.place)))) in
       let p = places.stand (puller about l) step.0 g.0.to l id g.0.place does in
       record {
-        to = g.0.to;
-        index = g.0.place - 1;
-        step = step.0;
-        place = g.0.place;
-        does = does;
+        to = g.0.to; index = g.0.place - 1; step = step.0; place = g.0.place; does = does;
         stands = p.stands;
       }
 

@@ -3,7 +3,7 @@ use Rattle.std.proofs.lemmas.List.Elements.{filter_map-append}
 use Rattle.linearization.specs.Orders.{steps_of}
 use Rattle.steer_base.specs.declared.put.Put.TheVariants.{At, Dropped}
 use Rattle.hop_rule.specs.Owns.{put_in, puts_of}
-use Rattle.hop_rule.specs.declared.step.Change.TheVariants.{Nothing, Offered, Pulled}
+use Rattle.hop_rule.specs.declared.step.Change.TheVariants.{Offered}
 use Rattle.board_api.specs.OwnSteps.{accepted_by, dropped_by}
 use Rattle.hop_delivery.specs.Orders.Turns.{Explained, turn_put, visit_with}
 use Rattle.run_coupling.specs.Laws.OneCount.{ChoicesAreOfTurns, choice_count, dropped_count}
@@ -12,10 +12,8 @@ use Rattle.run_coupling.proofs.Names.{◌≡◌, ◌≢◌, inl, inr, ℕ, zero,
 use Rattle.run_coupling.proofs.Names.{◌∷◌, ◌++◌, Some, None, length, All, sym, refl, ap, ◌∙◌, arith}
 use Rattle.run_coupling.proofs.Names.{cons_option, cases_eq, All-cons, All-head, All-nil, All-tail}
 use Rattle.run_coupling.proofs.Names.{StepBy, if_same, if_other, Chosen, list_at, sum_below}
-use Rattle.run_coupling.proofs.Names.{BoardSizes, BoardStep, Counted, Gate, Lane, LaneIn, LaneOut}
-use Rattle.run_coupling.proofs.Names.{OutCounted, Weighed, Entered, Freed, Given, Held, Missed}
-use Rattle.run_coupling.proofs.Names.{OutFreed, OutHeld, OutMissed, Retired, Execution, turns_of}
-use Rattle.run_coupling.proofs.Names.{Turn}
+use Rattle.run_coupling.proofs.Names.{BoardSizes, BoardStep, Gate, Lane, Entered, Freed, Execution}
+use Rattle.run_coupling.proofs.Names.{turns_of, Turn}
 use Rattle.run_coupling.proofs.Lists.SumLemmas.{sum-le, sum-plus, sum-swap}
 use Rattle.run_coupling.proofs.Runs.TurnListLemmas.{turns-counted}
 
@@ -86,8 +84,7 @@ puts-fit lanes (Lane (Freed i (Offered id hash (At n))) ∷ ds) =
     (if_other i p (Some id) None ne)) in
     omega arith
 puts-fit lanes (Lane (Freed i (Offered id hash (Dropped number accepted pulled cause))) ∷ ds) =
-    let d : BoardStep =
-    Lane (Freed i (Offered id hash (Dropped number accepted pulled cause))) in
+    let d : BoardStep = Lane (Freed i (Offered id hash (Dropped number accepted pulled cause))) in
     let rest = puts-fit lanes ds in
     let here : answered (d ∷ ds) i ≡ suc (answered ds i) =
     ap (λ o. length (accepted_by i ds) + length (cons_option o (dropped_by i ds)))
@@ -98,21 +95,7 @@ puts-fit lanes (Lane (Freed i (Offered id hash (Dropped number accepted pulled c
     ap (λ o. length (accepted_by p ds) + length (cons_option o (dropped_by p ds)))
     (if_other i p (Some id) None ne)) in
     omega arith
-puts-fit lanes (Lane (Freed i (Pulled id)) ∷ ds) = puts-fit lanes ds
-puts-fit lanes (Lane (Freed i Nothing) ∷ ds) = puts-fit lanes ds
-puts-fit lanes (Lane (Given o from id place) ∷ ds) = puts-fit lanes ds
-puts-fit lanes (Lane (Held l w x) ∷ ds) = puts-fit lanes ds
-puts-fit lanes (Lane (Missed l w) ∷ ds) = puts-fit lanes ds
-puts-fit lanes (Lane (OutHeld o w x) ∷ ds) = puts-fit lanes ds
-puts-fit lanes (Lane (OutMissed o w) ∷ ds) = puts-fit lanes ds
-puts-fit lanes (Lane (OutFreed o) ∷ ds) = puts-fit lanes ds
-puts-fit lanes (Lane (Retired l w) ∷ ds) = puts-fit lanes ds
-puts-fit lanes (Gate g ∷ ds) = puts-fit lanes ds
-puts-fit lanes (Weighed l w ∷ ds) = puts-fit lanes ds
-puts-fit lanes (Counted l w ∷ ds) = puts-fit lanes ds
-puts-fit lanes (OutCounted o w ∷ ds) = puts-fit lanes ds
-puts-fit lanes (LaneOut k ∷ ds) = puts-fit lanes ds
-puts-fit lanes (LaneIn k ∷ ds) = puts-fit lanes ds
+puts-fit lanes (d ∷ ds) = puts-fit lanes ds
 
 -- each turn is one put
 puts-counted : (ds : List BoardStep) (ts : List (StepBy Turn)) → Explained ds ts
@@ -138,8 +121,7 @@ puts-counted ds (t ∷ ts) (newer, late, older, are, quiet, late_quiet, early_qu
 -- ---- turns by producers
 
 -- as many turns as those of all producers together
-by-producers : (count : ℕ) (es : List (StepBy Turn))
-    → All (λ (e : StepBy Turn). e.by < count) es
+by-producers : (count : ℕ) (es : List (StepBy Turn)) → All (λ (e : StepBy Turn). e.by < count) es
     → length es ≤ sum_below (λ p. length (steps_of p es)) count
 by-producers count [] all = omega arith
 by-producers count (e ∷ es) all =

@@ -103,19 +103,7 @@ module _ (about : BoardSizes) (own : ℕ → List BoardStep) (lists : BoardLists
     (outs : OutsAreSums about own lists) where
   gives-in : (q k : ℕ) (d : BoardStep) → Has (own q) k d → GivesIn about.outs about.lanes d
   gives-in q k (Lane (Given o from id place)) does = gives q k o from id place does
-  gives-in q k (Lane (Held l w x)) does = tt
-  gives-in q k (Lane (Missed l w)) does = tt
-  gives-in q k (Lane (Freed l c)) does = tt
-  gives-in q k (Lane (OutHeld o w x)) does = tt
-  gives-in q k (Lane (OutMissed o w)) does = tt
-  gives-in q k (Lane (OutFreed o)) does = tt
-  gives-in q k (Lane (Retired l w)) does = tt
-  gives-in q k (Gate g) does = tt
-  gives-in q k (Weighed l w) does = tt
-  gives-in q k (Counted l w) does = tt
-  gives-in q k (OutCounted o w) does = tt
-  gives-in q k (LaneOut n) does = tt
-  gives-in q k (LaneIn n) does = tt
+  gives-in q k d does = tt
 
   -- only the lane's own seat delivers from it
   none-by-others : (q l : ℕ) → q ≢ puller about l → length (delivered_by l (own q)) ≡ 0
@@ -137,8 +125,7 @@ module _ (about : BoardSizes) (own : ℕ → List BoardStep) (lists : BoardLists
       low l (max 1 (about.seats - 1)) (omega arith)
       (omega arith)
     where
-      low : (l m : ℕ) → 0 < m → m ≤ about.seats
-          → l % m < about.seats
+      low : (l m : ℕ) → 0 < m → m ≤ about.seats → l % m < about.seats
       low l m some le =
           let small = mod-lt l {m = m} some in omega arith
 
@@ -190,5 +177,4 @@ module _ (about : BoardSizes) (own : ℕ → List BoardStep) (lists : BoardLists
         let t1 = t.delivered in
         let t2 = t.pulled in omega arith)) in
         each-equal (λ k. length (list_at h.sent k)) (λ k. length (list_at lists.outs k)) about.outs
-        below (total ∙ (sym done ∙ sym all-delivered)) a less
-        ∙ outs a less
+        below (total ∙ (sym done ∙ sym all-delivered)) a less ∙ outs a less

@@ -50,13 +50,11 @@ slice_get-take (x ∷ xs) zero (suc m) less = refl
 slice_get-take (x ∷ xs) (suc n) (suc m) less = slice_get-take xs n m (omega arith)
 
 -- what stands at an index below m is among the first m
-pub among_at : (x n m : ℕ) (xs : List ℕ) → slice_get xs n ≡ Some x → n < m
-    → is_among m x xs ≡ true
+pub among_at : (x n m : ℕ) (xs : List ℕ) → slice_get xs n ≡ Some x → n < m → is_among m x xs ≡ true
 among_at x n m xs at less = in_at x n (take m xs) (slice_get-take xs n m less ∙ at)
 
 -- an index by its number
-pub at_index : (xs : List ℕ) (i : ℕ) → i < length xs
-    → slice_get xs i ≡ Some (slice_index xs i)
+pub at_index : (xs : List ℕ) (i : ℕ) → i < length xs → slice_get xs i ≡ Some (slice_index xs i)
 at_index xs i less = slice_get-get_or xs i 0 less
 
 -- ---- apart
@@ -208,8 +206,7 @@ arrived_within (a ∷ rest) i p j x numbered at =
   where
     later : ((k : ℕ) → AreNumbered (i + 1) rest → slice_get (arrivals_at rest p) k ≡ Some x
         → (i + 1 ≤ x) × (x < (i + 1) + length rest)) → (k : ℕ) → AreNumbered (i + 1) rest
-        → slice_get (arrivals_at rest p) k ≡ Some x
-        → (i ≤ x) × (x < i + suc (length rest))
+        → slice_get (arrivals_at rest p) k ≡ Some x → (i ≤ x) × (x < i + suc (length rest))
     later before k numbered at =
         let r = before k numbered at in
         let low = r.0 in

@@ -3,8 +3,7 @@
 use Rattle.run_coupling.proofs.Names.{◌≡◌, ℕ, suc, zero, ◌+◌, ◌<◌, ◌≤◌, sym, refl, ap, ◌∙◌, subst}
 use Rattle.run_coupling.proofs.Names.{arith, inl, inr, cases_eq, sum_below}
 
-pub sum-le : (f g : ℕ → ℕ) (n : ℕ) → ((k : ℕ) → k < n → f k ≤ g k)
-    → sum_below f n ≤ sum_below g n
+pub sum-le : (f g : ℕ → ℕ) (n : ℕ) → ((k : ℕ) → k < n → f k ≤ g k) → sum_below f n ≤ sum_below g n
 sum-le f g zero below = omega arith
 sum-le f g (suc n) below =
     let a = sum-le f g n (λ k less. below k (omega arith)) in
@@ -26,8 +25,7 @@ each-equal f g (suc n) below same k less =
     lower : (k n : ℕ) → k < suc n → (k ≡ n → ⊥) → k < n
     lower k n less ne = omega arith
 
-pub sum-plus : (f g : ℕ → ℕ) (n : ℕ)
-    → sum_below (λ k. f k + g k) n ≡ sum_below f n + sum_below g n
+pub sum-plus : (f g : ℕ → ℕ) (n : ℕ) → sum_below (λ k. f k + g k) n ≡ sum_below f n + sum_below g n
 sum-plus f g zero = refl
 sum-plus f g (suc n) = let a = sum-plus f g n in omega arith
 

@@ -11,62 +11,46 @@ use Rattle.run_coupling.specs.Laws.Replies.{RepliesHaveTurns}
 use Rattle.run_coupling.specs.Coupling.Applications.{FitTransmitWords}
 use Rattle.run_coupling.specs.Coupling.Runs.{TransmitCoupling}
 use Rattle.run_coupling.specs.Coupling.Tries.{at_transmit}
-use Rattle.run_coupling.proofs.Names.{◌≡◌, ◌≢◌, ◌⊎◌, inl, inr, ℕ, zero, suc, ◌+◌, ◌*◌, ◌/◌, ◌^◌}
-use Rattle.run_coupling.proofs.Names.{◌<◌, ◌≤◌, ◌&&◌, Bool, true, false, List, [], ◌∷◌, ◌++◌}
-use Rattle.run_coupling.proofs.Names.{Option, Some, None, length, map, All, sym, refl, ap, ◌∙◌}
-use Rattle.run_coupling.proofs.Names.{subst, arith, nat_lt, slice_get, slice_index, slice_index_or}
-use Rattle.run_coupling.proofs.Names.{ltb-true, All-cons, All-from_get_or, All-head, All-nil}
-use Rattle.run_coupling.proofs.Names.{All-tail, Chosen, Command, list_at, History, gate_steps}
-use Rattle.run_coupling.proofs.Names.{opened, own_settings, nth_step, closer, BoardSizes, BoardStep}
-use Rattle.run_coupling.proofs.Names.{none-some, some-is, BoardLists, accepted_left, sent_sets}
-use Rattle.run_coupling.proofs.Names.{Steering, Execution, turns_of, Turn, Input, setup_in}
-use Rattle.run_coupling.proofs.Names.{Settings, initial_settings, AreTransmitWords}
+use Rattle.run_coupling.proofs.Names.{◌≡◌, ℕ, zero, suc, ◌+◌, ◌*◌, ◌/◌, ◌^◌, ◌<◌, List, [], ◌∷◌}
+use Rattle.run_coupling.proofs.Names.{◌++◌, Some, length, map, All, sym, refl, ap, ◌∙◌, subst}
+use Rattle.run_coupling.proofs.Names.{arith, nat_lt, slice_get, slice_index, ltb-true}
+use Rattle.run_coupling.proofs.Names.{All-from_get_or, Chosen, Command, list_at, History}
+use Rattle.run_coupling.proofs.Names.{gate_steps, opened, own_settings, nth_step, closer}
+use Rattle.run_coupling.proofs.Names.{BoardSizes, BoardStep, none-some, some-is, BoardLists}
+use Rattle.run_coupling.proofs.Names.{accepted_left, sent_sets, Steering, Execution, turns_of, Turn}
+use Rattle.run_coupling.proofs.Names.{Input, setup_in, Settings, initial_settings, AreTransmitWords}
 use Rattle.run_coupling.proofs.Names.{NamesTransmitQueues, Try, settings_by, tries_up_to}
 use Rattle.run_coupling.proofs.Names.{AreTurnsOf}
-use Rattle.run_coupling.proofs.Runs.TurnListLemmas.{ArriveOnce}
+use Rattle.run_coupling.proofs.Runs.TurnListLemmas.{ArriveOnce, turn-arrived, turn-chosen}
+use Rattle.run_coupling.proofs.Runs.TurnListLemmas.{turns-counted}
 use Rattle.run_coupling.proofs.Lists.PlaceLemmas.{StandOnce, at_index}
 use Rattle.run_coupling.proofs.Runs.FactLemmas.{BoardFacts}
 use Rattle.run_coupling.proofs.Runs.PutTurnLemmas.{put-of, turn-at}
-use Rattle.run_coupling.proofs.Runs.TurnListLemmas.{turn-arrived, turn-chosen, turns-counted}
-use Rattle.run_coupling.proofs.Tries.GivenLemmas.{all-back}
+use Rattle.run_coupling.proofs.Tries.GivenLemmas.{all-back, all-follow}
 use Rattle.run_coupling.proofs.Tries.MapLemmas.{pick-is}
 use Rattle.run_coupling.proofs.Tries.MapOpeningLemmas.{maps_of_opening}
-use Rattle.run_coupling.proofs.Tries.RangeLemmas.{FitMaps, IsWithinPlan, maps_by}
+use Rattle.run_coupling.proofs.Tries.RangeLemmas.{FitMaps, IsWithinPlan, and-both, maps_by}
 use Rattle.run_coupling.proofs.Tries.TryLemmas.{first-tries}
 
 -- ---- commands
-
-and-first : (a b : Bool) → (a && b) ≡ true → a ≡ true
-and-first true b e = refl
-and-first false b e = absurd (cc)
 
 names-maps : (i : Input) (c : Command) → IsWithinPlan i.plan c
     → NamesTransmitQueues (length i.plan.tx) c
 names-maps i (give.XCpus tx mask) within =
     ltb-true tx (length i.plan.tx)
-    (and-first (nat_lt tx (length i.plan.tx)) (nat_lt mask.0 (2 ^ i.plan.cpus)) within)
+    (and-both (nat_lt tx (length i.plan.tx)) (nat_lt mask.0 (2 ^ i.plan.cpus)) within).0
 names-maps i (give.XQueues tx rxqs) within =
     ltb-true tx (length i.plan.tx)
-    (and-first (nat_lt tx (length i.plan.tx)) (nat_lt rxqs (2 ^ length i.plan.queues)) within)
-names-maps i (give.Mask q mask) within = tt
-names-maps i (give.Flows q count) within = tt
-names-maps i (give.Sock size) within = tt
-names-maps i (give.Offline cpu) within = tt
-names-maps i (give.Online cpu) within = tt
-names-maps i (give.Reta place q) within = tt
-names-maps i (give.Stand app cpu) within = tt
-names-maps i give.Expire within = tt
+    (and-both (nat_lt tx (length i.plan.tx)) (nat_lt rxqs (2 ^ length i.plan.queues)) within).0
+names-maps i c within = tt
 
 pub all_name_maps : (i : Input) (ts : List Try)
     → All (λ (t : Try). IsWithinPlan i.plan t.given.command) ts
     → All (λ (t : Try). NamesTransmitQueues (length i.plan.tx) t.given.command) ts
-all_name_maps i [] all =
-    All-nil (λ (t : Try). NamesTransmitQueues (length i.plan.tx) t.given.command)
-all_name_maps i (t ∷ ts) all =
-    All-cons (λ (t : Try). NamesTransmitQueues (length i.plan.tx) t.given.command) t ts
-    (names-maps i t.given.command
-    (All-head (λ (t : Try). IsWithinPlan i.plan t.given.command) t ts all))
-    (all_name_maps i ts (All-tail (λ (t : Try). IsWithinPlan i.plan t.given.command) t ts all))
+all_name_maps i =
+    all-follow (λ (t : Try). IsWithinPlan i.plan t.given.command)
+    (λ (t : Try). NamesTransmitQueues (length i.plan.tx) t.given.command)
+    (λ t. names-maps i t.given.command)
 
 -- ---- fronts
 
@@ -185,9 +169,7 @@ module _ (i : Input) (h : History) (rx : BoardSizes) (rx_own : ℕ → List Boar
     seen-maps =
         let w = maps-upto n in
         record {
-          many = w.many;
-          cpu_maps = w.cpu_maps;
-          queue_maps = w.queue_maps;
+          many = w.many; cpu_maps = w.cpu_maps; queue_maps = w.queue_maps;
           cpus = λ tx less. read-is tx (omega arith) ∙ w.cpus tx less;
           queues = λ tx less. read-is (count + tx) (omega arith) ∙ w.queues tx less;
         }
@@ -222,8 +204,7 @@ module _ (i : Input) (h : History) (rx : BoardSizes) (rx_own : ℕ → List Boar
           s.0,
           s.1,
           sym s.2,
-          coupling.applications.picks a k u s.0 at s.1 fit-seen
-              ∙ ap (λ p. Some p)
+          coupling.applications.picks a k u s.0 at s.1 fit-seen ∙ ap (λ p. Some p)
               (pick-is count (after n) (seen a k) s.0.rxq s.0.cpu hash seen-maps
               ∙ sym (pick-is count (after n) (shown n) s.0.rxq s.0.cpu hash (maps-upto n))),
         )
@@ -252,7 +233,5 @@ module _ (i : Input) (h : History) (rx : BoardSizes) (rx_own : ℕ → List Boar
         journals = coupling.applications.choices;
         counted = turns-counted own t coupling.applications.turns;
         chosen = turn-chosen own t coupling.applications.turns;
-        few = few;
-        by_rule = rule-of;
-        replies = reply-of;
+        few = few; by_rule = rule-of; replies = reply-of;
       }

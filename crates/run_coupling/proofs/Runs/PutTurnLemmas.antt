@@ -13,8 +13,7 @@ use Rattle.run_coupling.proofs.Turns.TableEntryLemmas.{nth-moment}
 
 module _ (own : ℕ → List BoardStep) (t : Execution) (keeps : KeepsTurns own t) where
   -- each turn has its put in the own list of its seat
-  pub put-of : (p k : ℕ) (u : Turn) → nth_step (turns_of t p) k ≡ Some u
-      → (n : ℕ)
+  pub put-of : (p k : ℕ) (u : Turn) → nth_step (turns_of t p) k ≡ Some u → (n : ℕ)
       × Has (own (t.seat p)) n (put_step u.chosen.choice.lane u.chosen.id u.hash u.answer)
   put-of p k u at =
       let q : ℕ = t.seat p in

@@ -7,17 +7,14 @@ use Rattle.steer_base.specs.declared.command.Command.TheVariants as give
 use Rattle.steer_base.specs.declared.limits.TheConstants.{MAX_FLOW_COUNT, MAX_SOCKET_SIZE}
 use Rattle.steer_base.specs.Apps.{app_of}
 use Rattle.steer_model.specs.State.Setup.{app_for}
-use Rattle.run_coupling.proofs.Names.{◌≡◌, inl, inr, ℕ, ◌+◌, ◌-◌, ◌*◌, ◌/◌, ◌^◌, ◌<◌, ◌≤◌, ◌&&◌}
-use Rattle.run_coupling.proofs.Names.{Bool, true, false, List, [], ◌∷◌, ◌++◌, Some, length, All}
-use Rattle.run_coupling.proofs.Names.{sym, refl, ap, ◌∙◌, subst, arith, nat_lt, slice_get}
-use Rattle.run_coupling.proofs.Names.{slice_index, range_with_len, ltb-true, length-map, All-cons}
-use Rattle.run_coupling.proofs.Names.{All-head, All-nil, All-tail, rounded_up, has, Command}
-use Rattle.run_coupling.proofs.Names.{CpuMask, Arrival, History, gate_steps, opened, own_settings}
-use Rattle.run_coupling.proofs.Names.{nth_step, closer, BoardSizes, BoardStep, Counted, Gate, Lane}
-use Rattle.run_coupling.proofs.Names.{LaneIn, LaneOut, OutCounted, Weighed, Freed, Given, Held}
-use Rattle.run_coupling.proofs.Names.{Missed, OutFreed, OutHeld, OutMissed, Retired, Has}
-use Rattle.run_coupling.proofs.Names.{nth-inside, BoardLists, accepted_left, received_sets, Queues}
-use Rattle.run_coupling.proofs.Names.{queues, Steering, Execution, turns_of, Turn, QueuePlan, Input}
+use Rattle.run_coupling.proofs.Names.{◌≡◌, inl, inr, ℕ, ◌+◌, ◌-◌, ◌*◌, ◌/◌, ◌^◌, ◌<◌, ◌≤◌, true}
+use Rattle.run_coupling.proofs.Names.{List, [], ◌∷◌, ◌++◌, Some, length, All, sym, ap, ◌∙◌, subst}
+use Rattle.run_coupling.proofs.Names.{arith, nat_lt, slice_get, slice_index, range_with_len}
+use Rattle.run_coupling.proofs.Names.{ltb-true, length-map, rounded_up, has, Command, CpuMask}
+use Rattle.run_coupling.proofs.Names.{Arrival, History, gate_steps, opened, own_settings, nth_step}
+use Rattle.run_coupling.proofs.Names.{closer, BoardSizes, BoardStep, Lane, Given, Has, nth-inside}
+use Rattle.run_coupling.proofs.Names.{BoardLists, accepted_left, received_sets, Queues, queues}
+use Rattle.run_coupling.proofs.Names.{Steering, Execution, turns_of, Turn, QueuePlan, Input}
 use Rattle.run_coupling.proofs.Names.{setup_in, Settings, initial_settings, AreReceiveWords}
 use Rattle.run_coupling.proofs.Names.{NamesReceiveQueues, Try, settings_by, tries_up_to, AreTurnsOf}
 use Rattle.run_coupling.proofs.Ends.TotalLemmas.{all-by-number}
@@ -39,15 +36,16 @@ use Rattle.run_coupling.specs.Coupling.Inputs.{FlowsHaveOneHash, receive_queues}
 use Rattle.run_coupling.specs.Coupling.Queues.{FitReceiveWords, KeepsQueues}
 use Rattle.run_coupling.specs.Coupling.Tries.{KeepsReceiveTries, at_receive}
 use Rattle.run_coupling.proofs.Tries.ResizeLemmas.{resizes_by}
-use Rattle.run_coupling.proofs.Runs.TurnListLemmas.{ArriveOnce}
+use Rattle.run_coupling.proofs.Runs.TurnListLemmas.{ArriveOnce, turn-arrived, turn-chosen}
+use Rattle.run_coupling.proofs.Runs.TurnListLemmas.{turns-counted}
 use Rattle.run_coupling.proofs.Lists.PlaceLemmas.{AreNumbered, arrived_once, arrived_within}
 use Rattle.run_coupling.proofs.Lists.PlaceLemmas.{at_index}
 use Rattle.run_coupling.proofs.Runs.FactLemmas.{BoardFacts}
-use Rattle.run_coupling.proofs.Runs.TurnListLemmas.{turn-arrived, turn-chosen, turns-counted}
 use Rattle.run_coupling.proofs.Tries.EmptiedLemmas.{tries_find_empty}
-use Rattle.run_coupling.proofs.Tries.GivenLemmas.{all-back}
+use Rattle.run_coupling.proofs.Tries.GivenLemmas.{all-back, all-follow}
 use Rattle.run_coupling.proofs.Tries.HomeLemmas.{HomesOnline, homes_by}
-use Rattle.run_coupling.proofs.Tries.RangeLemmas.{FitSettings, IsWithinPlan, fit_by, rounded-flows}
+use Rattle.run_coupling.proofs.Tries.RangeLemmas.{FitSettings, IsWithinPlan, and-both, fit_by}
+use Rattle.run_coupling.proofs.Tries.RangeLemmas.{rounded-flows}
 use Rattle.run_coupling.proofs.Tries.TryLemmas.{first-tries}
 use Rattle.run_coupling.proofs.Tries.OpeningLemmas.{words_of_opening}
 
@@ -55,44 +53,26 @@ use Rattle.run_coupling.proofs.Tries.OpeningLemmas.{words_of_opening}
 names-queues : (i : Input) (c : Command) → IsWithinPlan i.plan c
     → NamesReceiveQueues (queues (receive_queues i)) c
 names-queues i (give.Mask q mask) within =
-    let b = both (nat_lt q (length i.plan.queues)) within in
+    let b = and-both (nat_lt q (length i.plan.queues)) (nat_lt mask.0 (2 ^ i.plan.cpus)) within in
     let less = ltb-true q (length i.plan.queues) b.0 in
     let size = length-map i.plan.queues (λ (queue : QueuePlan). queue.home) in
     omega arith
-  where
-    both : (a : Bool) {b : Bool} → (a && b) ≡ true → (a ≡ true) × (b ≡ true)
-    both true e = (refl, e)
-    both false e = absurd (cc)
 names-queues i (give.Flows q count) within =
-    let b = both (nat_lt q (length i.plan.queues)) within in
+    let b = and-both (nat_lt q (length i.plan.queues)) (nat_lt count (MAX_FLOW_COUNT + 1)) within in
     let less = ltb-true q (length i.plan.queues) b.0 in
     let few = ltb-true count (MAX_FLOW_COUNT + 1) b.1 in
     let size = length-map i.plan.queues (λ (queue : QueuePlan). queue.home) in
     let small = rounded-flows count (omega arith) in
     (omega arith, omega arith)
-  where
-    both : (a : Bool) {b : Bool} → (a && b) ≡ true → (a ≡ true) × (b ≡ true)
-    both true e = (refl, e)
-    both false e = absurd (cc)
-names-queues i (give.Sock size) within = tt
-names-queues i (give.Offline cpu) within = tt
-names-queues i (give.Online cpu) within = tt
-names-queues i (give.XCpus tx mask) within = tt
-names-queues i (give.XQueues tx rxqs) within = tt
-names-queues i (give.Reta place q) within = tt
-names-queues i (give.Stand app cpu) within = tt
-names-queues i give.Expire within = tt
+names-queues i c within = tt
 
 pub all_name_queues : (i : Input) (ts : List Try)
     → All (λ (t : Try). IsWithinPlan i.plan t.given.command) ts
     → All (λ (t : Try). NamesReceiveQueues (queues (receive_queues i)) t.given.command) ts
-all_name_queues i [] all =
-    All-nil (λ (t : Try). NamesReceiveQueues (queues (receive_queues i)) t.given.command)
-all_name_queues i (t ∷ ts) all =
-    All-cons (λ (t : Try). NamesReceiveQueues (queues (receive_queues i)) t.given.command) t ts
-    (names-queues i t.given.command
-    (All-head (λ (t : Try). IsWithinPlan i.plan t.given.command) t ts all))
-    (all_name_queues i ts (All-tail (λ (t : Try). IsWithinPlan i.plan t.given.command) t ts all))
+all_name_queues i =
+    all-follow (λ (t : Try). IsWithinPlan i.plan t.given.command)
+    (λ (t : Try). NamesReceiveQueues (queues (receive_queues i)) t.given.command)
+    (λ t. names-queues i t.given.command)
 
 -- a command of the plan names a processor below 32, if any
 names-cpu : (i : Input) (c : Command) → IsWithinPlan i.plan c → NamesCpu c
@@ -102,24 +82,14 @@ names-cpu i (give.Offline cpu) within =
 names-cpu i (give.Online cpu) within =
     let few = i.plan.within.cpus_within in
     let named = ltb-true cpu i.plan.cpus within in omega arith
-names-cpu i (give.Mask q mask) within = tt
-names-cpu i (give.Flows q count) within = tt
-names-cpu i (give.Sock size) within = tt
-names-cpu i (give.XCpus tx mask) within = tt
-names-cpu i (give.XQueues tx rxqs) within = tt
-names-cpu i (give.Reta place q) within = tt
-names-cpu i (give.Stand app cpu) within = tt
-names-cpu i give.Expire within = tt
+names-cpu i c within = tt
 
 all_name_cpus : (i : Input) (ts : List Try)
     → All (λ (t : Try). IsWithinPlan i.plan t.given.command) ts
     → All (λ (t : Try). NamesCpu t.given.command) ts
-all_name_cpus i [] all = All-nil (λ (t : Try). NamesCpu t.given.command)
-all_name_cpus i (t ∷ ts) all =
-    All-cons (λ (t : Try). NamesCpu t.given.command) t ts
-    (names-cpu i t.given.command
-    (All-head (λ (t : Try). IsWithinPlan i.plan t.given.command) t ts all))
-    (all_name_cpus i ts (All-tail (λ (t : Try). IsWithinPlan i.plan t.given.command) t ts all))
+all_name_cpus i =
+    all-follow (λ (t : Try). IsWithinPlan i.plan t.given.command)
+    (λ (t : Try). NamesCpu t.given.command) (λ t. names-cpu i t.given.command)
 
 answered-back : (i : Input) (h : History) (more ts : List Try) → AllAnswered i h (more ++ ts)
     → AllAnswered i h ts
@@ -143,17 +113,13 @@ module _ (i : Input) (h : History) (about : BoardSizes) (own : ℕ → List Boar
 
   -- ---- arrivals
 
-  pub numbered : AreNumbered 0 h.arrivals
-  numbered =
-      let a : length h.arrivals ≡ length i.packets =
-      sym (length-map h.arrivals (λ (a : Arrival). a.id))
-      ∙ (ap length arrived ∙ length-range_with_len 0 (length i.packets)) in
-      arrived ∙ ap (range_with_len 0) (sym a)
-
   pub arrivals-counted : length h.arrivals ≡ length i.packets
   arrivals-counted =
       sym (length-map h.arrivals (λ (a : Arrival). a.id))
       ∙ (ap length arrived ∙ length-range_with_len 0 (length i.packets))
+
+  pub numbered : AreNumbered 0 h.arrivals
+  numbered = arrived ∙ ap (range_with_len 0) (sym arrivals-counted)
 
   pub arrival-once : (p q j k x : ℕ) → slice_get (t.arrivals p) j ≡ Some x
       → slice_get (t.arrivals q) k ≡ Some x → (p ≡ q) × (j ≡ k)
@@ -177,9 +143,7 @@ module _ (i : Input) (h : History) (about : BoardSizes) (own : ℕ → List Boar
   pub are-turns : AreTurnsOf own t
   are-turns =
       record {
-        once = arrive-once;
-        explained = keeps.turns.explained;
-        by_seat = keeps.turns.by_seat;
+        once = arrive-once; explained = keeps.turns.explained; by_seat = keeps.turns.by_seat;
         arrived = turn-arrived own t keeps.turns;
       }
 
@@ -252,8 +216,7 @@ module _ (i : Input) (h : History) (about : BoardSizes) (own : ℕ → List Boar
     less : p < queues q
     less = turn-within p k u at
 
-    read-is : (word : ℕ) → Knows (own (t.seat p)) u word (z word)
-        → z word ≡ shown n word
+    read-is : (word : ℕ) → Knows (own (t.seat p)) u word (z word) → z word ≡ shown n word
     read-is word has =
         facts.turns_know t p k word (z word) u (keeps.turns.explained (t.seat p)) at has
 
@@ -286,8 +249,7 @@ module _ (i : Input) (h : History) (about : BoardSizes) (own : ℕ → List Boar
               (f.rounded p));
           sock = subst (λ m. m ≤ MAX_SOCKET_SIZE)
               (sym seen-sock) f.sock;
-          online =
-              subst (λ (m : CpuMask). m.0 < 2 ^ i.plan.cpus) (sym seen-online) f.online;
+          online = subst (λ (m : CpuMask). m.0 < 2 ^ i.plan.cpus) (sym seen-online) f.online;
         }
       where
         low : (c g : ℕ) → c < 2 ^ 32 → c ≤ MAX_FLOW_COUNT → (c + 2 ^ 32 * g) % 2 ^ 32
@@ -304,8 +266,7 @@ module _ (i : Input) (h : History) (about : BoardSizes) (own : ℕ → List Boar
 
     home-online : has (online q z) (slice_index q.homes p) ≡ true
     home-online =
-        ap (λ (m : CpuMask). has m (slice_index q.homes p)) seen-online
-        ∙ homes-upto n p less
+        ap (λ (m : CpuMask). has m (slice_index q.homes p)) seen-online ∙ homes-upto n p less
 
     pub rule-of : IsByRule about own (accepted_left lists) t r p k u
     rule-of =
@@ -322,9 +283,7 @@ module _ (i : Input) (h : History) (about : BoardSizes) (own : ℕ → List Boar
   choices-have-turns =
       record {
         explained = λ p. keeps.turns.explained (t.seat p);
-        journals = keeps.choices;
-        none = no-choices;
-        counted = turns-counted own t keeps.turns;
+        journals = keeps.choices; none = no-choices; counted = turns-counted own t keeps.turns;
         chosen = turn-chosen own t keeps.turns;
         known = λ p k u at.
             arrival-known p k u.chosen.id (turn-arrived own t keeps.turns p k u at);
@@ -347,28 +306,13 @@ module _ (i : Input) (h : History) (about : BoardSizes) (own : ℕ → List Boar
       stand.delivered-to about own lists facts (app_for (setup_in i)) right q k o from id place does
       ∙ sym (ap (λ a. app_of a (setup_in i).apps)
       (hashes id (delivered-known q k o from id place does)))
-  goes-right q k (Lane (Held l w x)) does = tt
-  goes-right q k (Lane (Missed l w)) does = tt
-  goes-right q k (Lane (Freed l c)) does = tt
-  goes-right q k (Lane (OutHeld o w x)) does = tt
-  goes-right q k (Lane (OutMissed o w)) does = tt
-  goes-right q k (Lane (OutFreed o)) does = tt
-  goes-right q k (Lane (Retired l w)) does = tt
-  goes-right q k (Gate g) does = tt
-  goes-right q k (Weighed l w) does = tt
-  goes-right q k (Counted l w) does = tt
-  goes-right q k (OutCounted o w) does = tt
-  goes-right q k (LaneOut n) does = tt
-  goes-right q k (LaneIn n) does = tt
+  goes-right q k d does = tt
 
   pub meets-premises : MeetsPremises about own (accepted_left lists) t r
   meets-premises =
       record {
-        once = arrive-once;
-        explained = keeps.turns.explained;
-        by_seat = keeps.turns.by_seat;
-        arrived = turn-arrived own t keeps.turns;
-        chosen = turn-chosen own t keeps.turns;
+        once = arrive-once; explained = keeps.turns.explained; by_seat = keeps.turns.by_seat;
+        arrived = turn-arrived own t keeps.turns; chosen = turn-chosen own t keeps.turns;
         given = λ q. all-by-number (GoesRight r) (own q) (goes-right q);
         by_rule = rule-of;
         emptied =

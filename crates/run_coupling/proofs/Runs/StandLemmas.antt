@@ -27,8 +27,7 @@ use Rattle.run_coupling.proofs.Runs.TurnListLemmas.{turn-chosen}
 
 -- a step that a function keeps is one of those kept
 pub filter-nth : {A B : Type 0} (f : A → Option B) (xs : List A) (k : ℕ) (x : A) (y : B)
-    → nth_step xs k ≡ Some x → f x ≡ Some y
-    → (n : ℕ) × (nth_step (filter_map f xs) n ≡ Some y)
+    → nth_step xs k ≡ Some x → f x ≡ Some y → (n : ℕ) × (nth_step (filter_map f xs) n ≡ Some y)
 filter-nth f [] k x y at is = Rattle.hop_rule.proofs.Lists.none-some x at
 filter-nth {A} {B} f (z ∷ zs) k x y at is =
     elim (cases_eq (length zs) k) [
@@ -180,12 +179,7 @@ module _ (about : BoardSizes) (own : ℕ → List BoardStep) (lists : BoardLists
       (delivery o x (suc j)) n.1 in
       let many = v.delivered in
       record {
-        lane = g.from;
-        index = n.0;
-        step = g.step;
-        within = w.1;
-        does = does;
-        is = n.1;
+        lane = g.from; index = n.0; step = g.step; within = w.1; does = does; is = n.1;
         stands_at = v.nth_delivery n.0 (delivery o x (suc j)) n.1;
         early = omega arith;
       }
@@ -197,8 +191,7 @@ module _ (about : BoardSizes) (own : ℕ → List BoardStep) (lists : BoardLists
       let f = came-from o a.0 x a.1 in
       (f.lane, in_at x f.index (accepted_left lists f.lane) f.stands_at)
 
-  pub out-among : (o x : ℕ) → is_in x (list_at lists.outs o) ≡ true
-      → (c : ℕ)
+  pub out-among : (o x : ℕ) → is_in x (list_at lists.outs o) ≡ true → (c : ℕ)
       × (is_among (lane_at lists.lanes c).delivered x (lane_at lists.lanes c).accepted ≡ true)
   out-among o x is =
       let a = at_in x (list_at lists.outs o) is in

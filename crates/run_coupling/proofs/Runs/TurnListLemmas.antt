@@ -23,8 +23,7 @@ get-before (y ∷ xs) x zero ne = refl
 get-before (y ∷ xs) x (suc i) ne = get-before xs x i (λ e. ne (ap suc e))
 
 -- the step with the number i is at index i of the list with the oldest first
-pub nth-oldest : {A : Type 0} (xs : List A) (i : ℕ)
-    → slice_get (oldest_first xs) i ≡ nth_step xs i
+pub nth-oldest : {A : Type 0} (xs : List A) (i : ℕ) → slice_get (oldest_first xs) i ≡ nth_step xs i
 nth-oldest [] i = refl
 nth-oldest (x ∷ xs) i =
     elim (cases_eq i (length xs)) [

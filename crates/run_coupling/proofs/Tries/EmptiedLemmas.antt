@@ -4,7 +4,6 @@ use Rattle.steer_base.specs.Commands.{is_affected}
 use Rattle.steer_base.specs.Sets.{those_below}
 use Rattle.steer_base.proofs.SetsLemmas.{those_below-more}
 use Rattle.hop_rule.specs.Gates.{openings}
-use Rattle.hop_rule.specs.declared.step.GateStep.TheVariants.{Turned, Left, NotShut, Read}
 use Rattle.board_api.specs.Calls.Results.{IsEmpty, Looked, looking}
 use Rattle.hop_delivery.specs.Orders.Commands.{AreAffected, NamesCpu}
 use Rattle.hop_delivery.specs.Orders.Premises.{AllFindEmpty, FindsEmpty, WasFoundEmpty}
@@ -12,14 +11,12 @@ use Rattle.hop_delivery.specs.Orders.ReceiveSettings.{receive_steering}
 use Rattle.hop_delivery.proofs.Orders.CommandLemmas.{received_commands_empty}
 use Rattle.run_coupling.specs.Laws.EmptiedLanes.{TriesFindEmpty}
 use Rattle.run_coupling.specs.Coupling.EmptiedLanes.{AllFindLanes, FindsAllEmpty, FindsLanes}
-use Rattle.run_coupling.specs.Coupling.EmptiedLanes.{NoSets}
-use Rattle.run_coupling.specs.Coupling.EmptiedLanes.{is_set}
+use Rattle.run_coupling.specs.Coupling.EmptiedLanes.{NoSets, is_set}
 use Rattle.run_coupling.proofs.Names.{◌≡◌, inl, inr, ℕ, zero, suc, ◌+◌, ◌<◌, Bool, true, false}
 use Rattle.run_coupling.proofs.Names.{List, [], ◌∷◌, ◌++◌, length, map, All, if◌then◌else◌, sym}
 use Rattle.run_coupling.proofs.Names.{refl, ap, ◌∙◌, subst, arith, All-head, All-tail, dite}
 use Rattle.run_coupling.proofs.Names.{ℕ_discrete, has, Command, gate_steps, own_settings}
-use Rattle.run_coupling.proofs.Names.{BoardSizes, BoardStep, Lane, Gate, Weighed, Counted}
-use Rattle.run_coupling.proofs.Names.{OutCounted, LaneOut, LaneIn, Entered, Shut, Opened, Set}
+use Rattle.run_coupling.proofs.Names.{BoardSizes, BoardStep, Gate, Weighed, Counted, Shut, Set}
 use Rattle.run_coupling.proofs.Names.{SettingChange, received_sets, Queues, Steering, Try}
 use Rattle.run_coupling.proofs.Names.{steps_of_tries, words_after}
 
@@ -97,25 +94,18 @@ all-mid P (y ∷ a) x b all = all-mid P a x b (All-tail P y (a ++ x ∷ b) all)
 
 found_at : (about : BoardSizes) (looked : List Looked) (word l : ℕ) (older : List BoardStep)
     (front back : List ℕ) → map (λ (x : Looked). x.lane) looked ≡ front ++ l ∷ back
-    → All IsEmpty looked
-    → WasFoundEmpty (looking looked (Gate (Shut word) ∷ []) ++ older) l
+    → All IsEmpty looked → WasFoundEmpty (looking looked (Gate (Shut word) ∷ []) ++ older) l
 found_at about looked word l older front back is empty =
     let t = map-split looked front l back is in
     let x : Looked = t.1 in
     let base : List BoardStep = Gate (Shut word) ∷ [] in
     record {
-      since = looking looked [];
-      older = older;
-      word = word;
+      since = looking looked []; older = older; word = word;
       closed =
           ap (λ ds. ds ++ older) (looking-append looked [] base)
           ∙ append_assoc (looking looked []) base older;
-      stays = ap openings (gates-looking looked []);
-      after = looking t.2 [];
-      between = [];
-      first = looking t.0 [];
-      head = x.head;
-      tail = x.tail;
+      stays = ap openings (gates-looking looked []); after = looking t.2 []; between = [];
+      first = looking t.0 []; head = x.head; tail = x.tail;
       loads =
           ap (λ xs. looking xs []) t.3
           ∙ (looking-split t.0 x t.2 []
@@ -132,25 +122,12 @@ module _ (about : BoardSizes) (r : Steering) where
   finds-none before (Gate (Set i v)) quiet =
       let n : suc zero ≡ zero = ap (λ (b : Bool). if b then suc zero else zero) quiet in
       absurd (omega (arith, n))
-  finds-none before (Gate (Entered w)) quiet = tt
-  finds-none before (Gate (Turned w)) quiet = tt
-  finds-none before (Gate Left) quiet = tt
-  finds-none before (Gate (Shut w)) quiet = tt
-  finds-none before (Gate (NotShut w)) quiet = tt
-  finds-none before (Gate Opened) quiet = tt
-  finds-none before (Gate (Read i v)) quiet = tt
-  finds-none before (Lane d) quiet = tt
-  finds-none before (Weighed l w) quiet = tt
-  finds-none before (Counted l w) quiet = tt
-  finds-none before (OutCounted o w) quiet = tt
-  finds-none before (LaneOut k) quiet = tt
-  finds-none before (LaneIn k) quiet = tt
+  finds-none before d quiet = tt
 
   all-quiet : (xs ys : List BoardStep) → NoSets xs → AllFindEmpty about r ys
       → AllFindEmpty about r (xs ++ ys)
   all-quiet [] ys none all = all
-  all-quiet (x ∷ xs) ys none all =
-      (finds-none (xs ++ ys) x none.0, all-quiet xs ys none.1 all)
+  all-quiet (x ∷ xs) ys none all = (finds-none (xs ++ ys) x none.0, all-quiet xs ys none.1 all)
 
 module _ (about : BoardSizes) (q : Queues) (cpus txs : ℕ) (f : Try → List BoardStep)
     (lanes : about.lanes ≡ cpus) where
@@ -159,8 +136,7 @@ module _ (about : BoardSizes) (q : Queues) (cpus txs : ℕ) (f : Try → List Bo
 
   found_one : (t : Try) (ts : List Try) (m : SettingChange)
       → received_sets q (words_after about (received_sets q) f ts) t.given.command ≡ m ∷ []
-      → NamesCpu t.given.command
-      → FindsAllEmpty about q.homes cpus txs t.given.command m (f t)
+      → NamesCpu t.given.command → FindsAllEmpty about q.homes cpus txs t.given.command m (f t)
       → AllFindEmpty about r (steps_of_tries f ts)
       → AllFindEmpty about r (steps_of_tries f (t ∷ ts))
   found_one t ts m one names e all =
@@ -195,15 +171,13 @@ module _ (about : BoardSizes) (q : Queues) (cpus txs : ℕ) (f : Try → List Bo
       )
 
   found_by : (t : Try) (ts : List Try) → NamesCpu t.given.command
-      → FindsLanes about q cpus txs f t ts
-      → AllFindEmpty about r (steps_of_tries f ts)
+      → FindsLanes about q cpus txs f t ts → AllFindEmpty about r (steps_of_tries f ts)
       → AllFindEmpty about r (steps_of_tries f (t ∷ ts))
   found_by t ts names (inl none) all = all-quiet about r (f t) (steps_of_tries f ts) none all
   found_by t ts names (inr (m, one, e)) all = found_one t ts m one names e all
 
   found_all : (ts : List Try) → All (λ (t : Try). NamesCpu t.given.command) ts
-      → AllFindLanes about q cpus txs f ts
-      → AllFindEmpty about r (steps_of_tries f ts)
+      → AllFindLanes about q cpus txs f ts → AllFindEmpty about r (steps_of_tries f ts)
   found_all [] names are = tt
   found_all (t ∷ ts) names are =
       found_by t ts (All-head (λ (t : Try). NamesCpu t.given.command) t ts names) are.0

@@ -2,8 +2,7 @@
 use Rattle.steer_base.specs.declared.step.Step.{Step}
 use Rattle.steer_base.specs.declared.step.Step.TheVariants as step
 use Rattle.plan_reader.specs.Plans.{sizes_of}
-use Rattle.plan_reader.specs.Ranges.{command_in, commands_of, step_is_within}
-use Rattle.plan_reader.specs.Ranges.{steps_in_list}
+use Rattle.plan_reader.specs.Ranges.{command_in, commands_of, step_is_within, steps_in_list}
 use Rattle.plan_reader.specs.declared.plan.Plan.{Plan}
 use Rattle.steer_model.specs.Good.Commands.{AreGiven}
 use Rattle.run_coupling.proofs.Names.{◌≡◌, ℕ, true, List, [], ◌∷◌, ◌++◌, map, All, sym, subst}
@@ -29,6 +28,13 @@ all-joined P [] ys a b = b
 all-joined P (x ∷ xs) ys a b =
     All-cons P x (xs ++ ys) (All-head P x xs a) (all-joined P xs ys (All-tail P x xs a) b)
 
+pub all-follow : {A : Type 0} (P Q : A → Type 0) → ((x : A) → P x → Q x) → (xs : List A)
+    → All P xs → All Q xs
+all-follow P Q follow [] all = All-nil Q
+all-follow P Q follow (x ∷ xs) all =
+    All-cons Q x xs (follow x (All-head P x xs all))
+    (all-follow P Q follow xs (All-tail P x xs all))
+
 -- ---- the plan's commands
 
 module _ (plan : Plan) where
@@ -44,32 +50,7 @@ module _ (plan : Plan) where
           → All (IsWithinPlan plan) (cons_option (command_in s) (filter_map command_in ss))
       by_step (step.Give c) within rest =
           All-cons (IsWithinPlan plan) c (filter_map command_in ss) within rest
-      by_step step.Arrive within rest = rest
-      by_step (step.Take queue) within rest = rest
-      by_step (step.Enter queue) within rest = rest
-      by_step (step.Look queue) within rest = rest
-      by_step (step.Weigh queue) within rest = rest
-      by_step (step.Put queue) within rest = rest
-      by_step (step.Ask queue) within rest = rest
-      by_step (step.Leave queue) within rest = rest
-      by_step (step.Pull cpu) within rest = rest
-      by_step (step.Deliver cpu) within rest = rest
-      by_step (step.Retire cpu) within rest = rest
-      by_step (step.Record flow) within rest = rest
-      by_step (step.Send app) within rest = rest
-      by_step (step.TEnter app) within rest = rest
-      by_step (step.TLeave app) within rest = rest
-      by_step (step.TWeigh app) within rest = rest
-      by_step (step.TPut app) within rest = rest
-      by_step (step.TPull tx) within rest = rest
-      by_step (step.TDeliver tx) within rest = rest
-      by_step (step.TRetire tx) within rest = rest
-      by_step (step.Poll queue) within rest = rest
-      by_step (step.Drain cpu) within rest = rest
-      by_step (step.Reply app) within rest = rest
-      by_step (step.Serve app) within rest = rest
-      by_step (step.Ship tx) within rest = rest
-      by_step step.Sweep within rest = rest
+      by_step s within rest = rest
 
   given-within : (tries : ℕ) (cs : List Command) (given : List Commanded)
       → All (IsWithinPlan plan) cs → AreGiven tries cs given
@@ -80,21 +61,13 @@ module _ (plan : Plan) where
   given-within tries (c ∷ cs) given all (block, rest, is, tried, older) =
       subst (All (λ (g : Commanded). IsWithinPlan plan g.command)) (sym is)
       (all-joined (λ (g : Commanded). IsWithinPlan plan g.command) block rest
-      (same-within c block (All-head (IsWithinPlan plan) c cs all) tried.same)
+      (all-follow (λ (g : Commanded). g.command ≡ c)
+      (λ (g : Commanded). IsWithinPlan plan g.command)
+      (λ g same. subst (IsWithinPlan plan) (sym same) (All-head (IsWithinPlan plan) c cs all)) block
+      tried.same)
       (given-within tries cs rest (All-tail (IsWithinPlan plan) c cs all) older))
-    where
-      same-within : (c : Command) (block : List Commanded) → IsWithinPlan plan c
-          → All (λ (g : Commanded). g.command ≡ c) block
-          → All (λ (g : Commanded). IsWithinPlan plan g.command) block
-      same-within c [] within same = All-nil (λ (g : Commanded). IsWithinPlan plan g.command)
-      same-within c (g ∷ block) within same =
-          All-cons (λ (g : Commanded). IsWithinPlan plan g.command) g block
-          (subst (IsWithinPlan plan)
-          (sym (All-head (λ (g : Commanded). g.command ≡ c) g block same)) within)
-          (same-within c block within (All-tail (λ (g : Commanded). g.command ≡ c) g block same))
 
-  tries-within : (ts : List Try)
-      → All (λ (g : Commanded). IsWithinPlan plan g.command)
+  tries-within : (ts : List Try) → All (λ (g : Commanded). IsWithinPlan plan g.command)
       (oldest_first (map (λ (t : Try). t.given) ts))
       → All (λ (t : Try). IsWithinPlan plan t.given.command) ts
   tries-within [] all = All-nil (λ (t : Try). IsWithinPlan plan t.given.command)

@@ -22,8 +22,7 @@ use Rattle.run_coupling.proofs.Tries.RangeLemmas.{IsWithinPlan}
 
 -- the homes of these queues are online
 abbrev pub HomesOnline : List ℕ → Settings → Type 0
-HomesOnline homes s =
-    (p : ℕ) → p < length homes → has s.online (slice_index homes p) ≡ true
+HomesOnline homes s = (p : ℕ) → p < length homes → has s.online (slice_index homes p) ≡ true
 
 -- if no home is the processor, the home at an index is another
 none-there : (cpu : ℕ) (homes : List ℕ) → position (λ home. home == cpu) homes ≡ None
@@ -57,8 +56,7 @@ module _ (i : Input) where
 
   offline-free : (s : Settings) (cpu : ℕ) → refused_with i s (give.Offline cpu) ≡ None
       → (p : ℕ) → p < length homes → slice_index homes p ≢ cpu
-  offline-free s cpu free =
-      by_online (has s.online cpu) free
+  offline-free s cpu free = by_online (has s.online cpu) free
     where
       by_online : (b : Bool)
           → (if b then option_map (λ user. refused.CpuInUse user)
@@ -87,14 +85,7 @@ module _ (i : Input) where
       let named = ltb-true cpu i.plan.cpus within in
       has-with_cpu s.online cpu (slice_index homes p) (omega arith)
       ∙ ap (λ b. b || (nat_lt (slice_index homes p) 32 && cpu == slice_index homes p)) (on p less)
-  homes_changed s (give.Mask q mask) within free on p less = on p less
-  homes_changed s (give.Flows q count) within free on p less = on p less
-  homes_changed s (give.Sock size) within free on p less = on p less
-  homes_changed s (give.XCpus tx mask) within free on p less = on p less
-  homes_changed s (give.XQueues tx queues) within free on p less = on p less
-  homes_changed s (give.Reta place q) within free on p less = on p less
-  homes_changed s (give.Stand app cpu) within free on p less = on p less
-  homes_changed s give.Expire within free on p less = on p less
+  homes_changed s c within free on p less = on p less
 
   first-homes : (qs : List QueuePlan) (p : ℕ) → All (QueueIsWithin i.plan.cpus) qs
       → p < length (map (λ (q : QueuePlan). q.home) qs)
@@ -114,18 +105,15 @@ module _ (i : Input) where
   done-free : (h : History) (t : Try) (o : Option Refused) → is_done t.given.answer ≡ true
       → IsAnswered i h t o → o ≡ None
   done-free h t None done is = refl
-  done-free h t (Some (refused.CpuInUse user)) done is =
-      absurd (apart (sym (ap is_done is) ∙ done))
+  done-free h t (Some (refused.CpuInUse user)) done is = absurd (apart (sym (ap is_done is) ∙ done))
     where
       apart : false ≡ true → ⊥
       apart e = absurd (cc)
-  done-free h t (Some refused.CpuOffline) done is =
-      absurd (apart (sym (ap is_done is) ∙ done))
+  done-free h t (Some refused.CpuOffline) done is = absurd (apart (sym (ap is_done is) ∙ done))
     where
       apart : false ≡ true → ⊥
       apart e = absurd (cc)
-  done-free h t (Some refused.AlreadyOnline) done is =
-      absurd (apart (sym (ap is_done is) ∙ done))
+  done-free h t (Some refused.AlreadyOnline) done is = absurd (apart (sym (ap is_done is) ∙ done))
     where
       apart : false ≡ true → ⊥
       apart e = absurd (cc)
@@ -142,8 +130,7 @@ module _ (i : Input) where
     where
       by_done : (b : Bool) → is_done t.given.answer ≡ b
           → HomesOnline (setup_in i).homes (settings_by (initial_settings i.plan) ts)
-          → IsWithinPlan i.plan t.given.command
-          → IsAnswered i h t
+          → IsWithinPlan i.plan t.given.command → IsAnswered i h t
           (refused_with i (settings_by (initial_settings i.plan) ts) t.given.command)
           → HomesOnline (setup_in i).homes
           (if b then changed (settings_by (initial_settings i.plan) ts) t.given.command

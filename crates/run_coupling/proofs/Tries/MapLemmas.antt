@@ -52,8 +52,7 @@ map_with count s w (give.XCpus tx cpus) within some a =
     }
 map_with count s w (give.XQueues tx rxqs) within some a =
     record {
-      many = a.many;
-      cpu_maps = a.cpu_maps;
+      many = a.many; cpu_maps = a.cpu_maps;
       queue_maps = length-set s.maps.queues tx rxqs ∙ a.queue_maps;
       cpus = λ y lt.
           if_other (count + tx) y rxqs (w y) (λ e. absurd (omega arith)) ∙ a.cpus y lt;
@@ -69,14 +68,7 @@ map_with count s w (give.XQueues tx rxqs) within some a =
           ∙ (a.queues y lt
           ∙ sym (get_or-set_other s.maps.queues tx y rxqs 0 (λ e. ne (sym e)))));
     }
-map_with count s w (give.Mask r m) within some a = absurd (omega arith)
-map_with count s w (give.Flows r n) within some a = absurd (omega arith)
-map_with count s w (give.Sock n) within some a = absurd (omega arith)
-map_with count s w (give.Offline cpu) within some a = absurd (omega arith)
-map_with count s w (give.Online cpu) within some a = absurd (omega arith)
-map_with count s w (give.Reta place r) within some a = absurd (omega arith)
-map_with count s w (give.Stand app cpu) within some a = absurd (omega arith)
-map_with count s w give.Expire within some a = absurd (omega arith)
+map_with count s w c within some a = absurd (omega arith)
 
 same_maps : (count : ℕ) (s z : Settings) (w : ℕ → ℕ) → z.maps ≡ s.maps → AreTransmitWords count s w
     → AreTransmitWords count z w
@@ -95,14 +87,7 @@ map_none : (count : ℕ) (s : Settings) (w : ℕ → ℕ) (c : Command) → leng
     → AreTransmitWords count s w → AreTransmitWords count (changed s c) w
 map_none count s w (give.XCpus tx cpus) none a = absurd (omega arith)
 map_none count s w (give.XQueues tx rxqs) none a = absurd (omega arith)
-map_none count s w (give.Mask r m) none a = same_maps count s _ w refl a
-map_none count s w (give.Flows r n) none a = same_maps count s _ w refl a
-map_none count s w (give.Sock n) none a = same_maps count s _ w refl a
-map_none count s w (give.Offline cpu) none a = same_maps count s _ w refl a
-map_none count s w (give.Online cpu) none a = same_maps count s _ w refl a
-map_none count s w (give.Reta place r) none a = same_maps count s _ w refl a
-map_none count s w (give.Stand app cpu) none a = same_maps count s _ w refl a
-map_none count s w give.Expire none a = same_maps count s _ w refl a
+map_none count s w c none a = same_maps count s _ w refl a
 
 module _ (about : BoardSizes) (count : ℕ) (s : Settings) (f : Try → List BoardStep)
     (first : AreTransmitWords count s (own_settings about [])) where

@@ -63,9 +63,15 @@ rounded-flows n few = rounded-within n 15 few
 pub rounded-sock : (n : ℕ) → n ≤ MAX_SOCKET_SIZE → rounded_up n ≤ MAX_SOCKET_SIZE
 rounded-sock n few = rounded-within n 16 few
 
+some-power : (n : ℕ) → 0 < 2 ^ n
+some-power n =
+    let least : 1 ≤ 2 ^ n = pow-le-pow_right {n = 2} (lit< tt) (zero-least n) in omega arith
+  where
+    zero-least : (m : ℕ) → 0 ≤ m
+    zero-least m = omega arith
+
 -- the search finds a power of two, if one is enough
-find-power : (n k from len : ℕ) → from ≤ k → k < from + len → n ≤ 2 ^ k
-    → IsPowerOfTwo
+find-power : (n k from len : ℕ) → from ≤ k → k < from + len → n ≤ 2 ^ k → IsPowerOfTwo
     (unwrap_or (find (λ power. nat_le n power) (map (λ i. 2 ^ i) (range_with_len from len))) 0)
 find-power n k from zero low high enough = absurd (omega arith)
 find-power n k from (suc len) low high enough =
@@ -103,18 +109,11 @@ rounded-again n few =
   where
     again : (p : ℕ) → IsPowerOfTwo p → p ≤ 65536 → rounded_up p ≡ p
     again p power few =
-        let some : 0 < p = subst (λ m. 0 < m) (sym power.1) (some-of power.0) in
+        let some : 0 < p = subst (λ m. 0 < m) (sym power.1) (some-power power.0) in
         let other : p ≢ 0 = λ e. absurd (omega arith) in
         ap (λ b. if b then 0 else first_power p) (ne_eqb p 0 other)
         ∙ sym (first_power-next p p power some few (omega arith) (half p some))
       where
-        some-of : (k : ℕ) → 0 < 2 ^ k
-        some-of k =
-            let least : 1 ≤ 2 ^ k = pow-le-pow_right {n = 2} (lit< tt) (zero-least k) in omega arith
-          where
-            zero-least : (m : ℕ) → 0 ≤ m
-            zero-least m = omega arith
-
         half : (p : ℕ) → 0 < p → p / 2 < max 1 p
         half p some = omega arith
 
@@ -133,7 +132,7 @@ pub record FitMaps (cpus queues : ℕ) (s : Settings) : Type 0 where
   pub cpu_sets : (tx : ℕ) → (slice_index_or s.maps.cpus tx no_cpus).0 < 2 ^ cpus
   pub queue_sets : (tx : ℕ) → slice_index s.maps.queues tx < 2 ^ queues
 
-and-both : (a b : Bool) → (a && b) ≡ true → (a ≡ true) × (b ≡ true)
+pub and-both : (a b : Bool) → (a && b) ≡ true → (a ≡ true) × (b ≡ true)
 and-both true b e = (refl, e)
 and-both false b e = absurd (cc)
 
@@ -141,21 +140,10 @@ below-power : (m n : ℕ) → m < n → 2 ^ m < 2 ^ n
 below-power m n less =
     let up : 2 ^ suc m ≤ 2 ^ n = pow-le-pow_right {n = 2} (lit< tt) less in
     let double : 2 ^ suc m ≡ 2 ^ m + 2 ^ m = double-power m in
-    let some : 1 ≤ 2 ^ m = pow-le-pow_right {n = 2} (lit< tt) (least m) in
-    omega arith
+    let some = some-power m in omega arith
   where
     double-power : (m : ℕ) → 2 ^ suc m ≡ 2 ^ m + 2 ^ m
     double-power m = omega arith
-
-    least : (m : ℕ) → 0 ≤ m
-    least m = omega arith
-
-some-power : (n : ℕ) → 0 < 2 ^ n
-some-power n =
-    let least : 1 ≤ 2 ^ n = pow-le-pow_right {n = 2} (lit< tt) (zero-least n) in omega arith
-  where
-    zero-least : (m : ℕ) → 0 ≤ m
-    zero-least m = omega arith
 
 set-any : (P : CpuMask → Type 0) (xs : List CpuMask) (q p : ℕ) (x d : CpuMask) → P x
     → P (slice_index_or xs p d) → P (slice_index_or (slice_set xs q x) p d)
@@ -189,10 +177,7 @@ module _ (plan : Plan) where
         masks = λ p.
             set-any (λ (m : CpuMask). m.0 < 2 ^ plan.cpus) s.masks q p mask (record { 0 = 0 }) small
             (f.masks p);
-        counts = f.counts;
-        rounded = f.rounded;
-        sock = f.sock;
-        online = f.online;
+        counts = f.counts; rounded = f.rounded; sock = f.sock; online = f.online;
       }
   fit_changed s (give.Flows q count) within f =
       let b = and-both (nat_lt q (length plan.queues)) (nat_lt count (MAX_FLOW_COUNT + 1)) within in
@@ -205,71 +190,32 @@ module _ (plan : Plan) where
         rounded = λ p.
             set-number (λ n. rounded_up n ≡ n) s.counts q p (rounded_up count)
             (rounded-again count (omega arith)) (f.rounded p);
-        sock = f.sock;
-        online = f.online;
+        sock = f.sock; online = f.online;
       }
   fit_changed s (give.Sock size) within f =
       let few = ltb-true size (MAX_SOCKET_SIZE + 1) within in
       record {
-        masks = f.masks;
-        counts = f.counts;
-        rounded = f.rounded;
-        sock = rounded-sock size (omega arith);
-        online = f.online;
+        masks = f.masks; counts = f.counts; rounded = f.rounded;
+        sock = rounded-sock size (omega arith); online = f.online;
       }
   fit_changed s (give.Offline cpu) within f =
       let less = and_le_l s.online.0 (2 ^ 32 - 1 - 2 ^ cpu) in
       let now = f.online in
       record {
-        masks = f.masks;
-        counts = f.counts;
-        rounded = f.rounded;
-        sock = f.sock;
+        masks = f.masks; counts = f.counts; rounded = f.rounded; sock = f.sock;
         online = omega arith;
       }
   fit_changed s (give.Online cpu) within f =
       record {
-        masks = f.masks;
-        counts = f.counts;
-        rounded = f.rounded;
-        sock = f.sock;
+        masks = f.masks; counts = f.counts; rounded = f.rounded; sock = f.sock;
         online =
             or_lt plan.cpus s.online.0 (2 ^ cpu) f.online
             (below-power cpu plan.cpus (ltb-true cpu plan.cpus within));
       }
-  fit_changed s (give.XCpus tx mask) within f =
+  fit_changed s c within f =
       record {
-        masks = f.masks;
-        counts = f.counts;
-        rounded = f.rounded;
-        sock = f.sock;
-        online = f.online;
+        masks = f.masks; counts = f.counts; rounded = f.rounded; sock = f.sock; online = f.online;
       }
-  fit_changed s (give.XQueues tx queues) within f =
-      record {
-        masks = f.masks;
-        counts = f.counts;
-        rounded = f.rounded;
-        sock = f.sock;
-        online = f.online;
-      }
-  fit_changed s (give.Reta place q) within f =
-      record {
-        masks = f.masks;
-        counts = f.counts;
-        rounded = f.rounded;
-        sock = f.sock;
-        online = f.online;
-      }
-  fit_changed s (give.Stand app cpu) within f =
-      record {
-        masks = f.masks;
-        counts = f.counts;
-        rounded = f.rounded;
-        sock = f.sock;
-        online = f.online;
-      }
-  fit_changed s give.Expire within f = f
 
   first-masks : (qs : List QueuePlan) (p : ℕ) → All (QueueIsWithin plan.cpus) qs
       → (slice_index_or (map (λ (q : QueuePlan). q.mask) qs) p (record { 0 = 0 })).0 < 2 ^ plan.cpus
@@ -344,24 +290,9 @@ module _ (plan : Plan) where
             set-number (λ n. n < 2 ^ length plan.queues) s.maps.queues tx y queues
             (ltb-true queues (2 ^ length plan.queues) b.1) (f.queue_sets y);
       }
-  maps_changed s (give.Mask q mask) within f = record
-      { cpu_sets = f.cpu_sets; queue_sets = f.queue_sets }
-  maps_changed s (give.Flows q n) within f = record
-      { cpu_sets = f.cpu_sets; queue_sets = f.queue_sets }
-  maps_changed s (give.Sock n) within f = record
-      { cpu_sets = f.cpu_sets; queue_sets = f.queue_sets }
-  maps_changed s (give.Offline cpu) within f = record
-      { cpu_sets = f.cpu_sets; queue_sets = f.queue_sets }
-  maps_changed s (give.Online cpu) within f = record
-      { cpu_sets = f.cpu_sets; queue_sets = f.queue_sets }
-  maps_changed s (give.Reta place q) within f = record
-      { cpu_sets = f.cpu_sets; queue_sets = f.queue_sets }
-  maps_changed s (give.Stand app cpu) within f = record
-      { cpu_sets = f.cpu_sets; queue_sets = f.queue_sets }
-  maps_changed s give.Expire within f = f
+  maps_changed s c within f = record { cpu_sets = f.cpu_sets; queue_sets = f.queue_sets }
 
-  first-cpu_sets : (ts : List TxPlan) (tx : ℕ)
-      → All (TxIsWithin plan.cpus (length plan.queues)) ts
+  first-cpu_sets : (ts : List TxPlan) (tx : ℕ) → All (TxIsWithin plan.cpus (length plan.queues)) ts
       → (slice_index_or (map (λ (q : TxPlan). q.cpus) ts) tx no_cpus).0 < 2 ^ plan.cpus
   first-cpu_sets [] tx all = some-power plan.cpus
   first-cpu_sets (t ∷ ts) zero all =

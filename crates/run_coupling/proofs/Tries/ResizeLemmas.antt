@@ -15,8 +15,7 @@ use Rattle.run_coupling.proofs.Tries.TryLemmas.{given_by}
 -- how often these tries have resized the flow table of a queue
 abbrev pub resizes_by : ℕ → List Try → ℕ
 resizes_by p [] = 0
-resizes_by p (t ∷ ts) =
-    if is_resize p t.given then suc (resizes_by p ts) else resizes_by p ts
+resizes_by p (t ∷ ts) = if is_resize p t.given then suc (resizes_by p ts) else resizes_by p ts
 
 pub resizes-append : (p : ℕ) (xs ys : List Try)
     → resizes_by p (xs ++ ys) ≡ resizes_by p xs + resizes_by p ys
@@ -43,15 +42,7 @@ counts-changed p s (give.Flows r n) other =
         is-not eq =
             let n : suc zero ≡ zero = ap (λ (b : Bool). if b then suc zero else zero) eq in
             absurd (omega (arith, n))
-counts-changed p s (give.Mask r mask) other = refl
-counts-changed p s (give.Sock n) other = refl
-counts-changed p s (give.Offline cpu) other = refl
-counts-changed p s (give.Online cpu) other = refl
-counts-changed p s (give.XCpus tx cpus) other = refl
-counts-changed p s (give.XQueues tx rxqs) other = refl
-counts-changed p s (give.Reta place r) other = refl
-counts-changed p s (give.Stand app cpu) other = refl
-counts-changed p s give.Expire other = refl
+counts-changed p s c other = refl
 
 and-false : (b : Bool) → (b && false) ≡ false
 and-false true = refl
@@ -59,8 +50,7 @@ and-false false = refl
 
 -- one try more, that does not resize
 stay-more : (p : ℕ) (now : Settings) (t : Try) (n was : ℕ) → slice_index now.counts p ≡ was
-    → (if is_resize p t.given then suc n else n) ≡ 0
-    → (d : Bool) → is_done t.given.answer ≡ d
+    → (if is_resize p t.given then suc n else n) ≡ 0 → (d : Bool) → is_done t.given.answer ≡ d
     → slice_index (if d then changed now t.given.command else now).counts p ≡ was
 stay-more p now t n was before none false is = before
 stay-more p now t n was before none true is = by_flows (is_flows p t.given.command) refl
@@ -113,8 +103,7 @@ flow_word s p ts = slice_index (settings_by s ts).counts p + 2 ^ 32 * resizes_by
 
 pub resized_between : (s : Settings) (p : ℕ) (more ts : List Try)
     → slice_index (settings_by s (more ++ ts)).counts p < 2 ^ 32
-    → slice_index (settings_by s ts).counts p < 2 ^ 32
-    → list_any (is_resize p) (given_by more)
+    → slice_index (settings_by s ts).counts p < 2 ^ 32 → list_any (is_resize p) (given_by more)
     ≡ not (flow_word s p ts == flow_word s p (more ++ ts))
 resized_between s p more ts small small_old =
     any-resizes p more ∙ by_number (resizes_by p more) refl

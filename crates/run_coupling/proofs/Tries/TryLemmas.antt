@@ -6,17 +6,15 @@ use Rattle.std.proofs.Math.Seq.{take-append_seam, drop-append_seam}
 use Rattle.hop_rule.specs.Boards.{gate_in}
 use Rattle.hop_rule.specs.Gates.{openings}
 use Rattle.hop_rule.specs.declared.step.GateStep.{GateStep}
-use Rattle.hop_rule.specs.declared.step.GateStep.TheVariants.{Turned, Left, NotShut, Read}
 use Rattle.run_coupling.specs.Coupling.Tries.{SetsByAnswer, openings_by, set_or_opening}
 use Rattle.run_coupling.proofs.Names.{◌≡◌, ◌≢◌, ◌⊎◌, inl, inr, ℕ, suc, ◌+◌, ◌≤◌, ◌==◌, true, false}
 use Rattle.run_coupling.proofs.Names.{List, [], ◌∷◌, ◌++◌, length, map, take, drop, if◌then◌else◌}
 use Rattle.run_coupling.proofs.Names.{sym, refl, ap, ◌∙◌, arith, length-append, filter_map, dite}
 use Rattle.run_coupling.proofs.Names.{ℕ_discrete, if_same, if_other, Command, Commanded, gate_steps}
 use Rattle.run_coupling.proofs.Names.{opened, own_settings, with_setting, BoardSizes, BoardStep}
-use Rattle.run_coupling.proofs.Names.{Entered, Shut, Opened, Set, SettingChange, is_done}
-use Rattle.run_coupling.proofs.Names.{settings_after, Settings, changed, AllSetByAnswer, Try}
-use Rattle.run_coupling.proofs.Names.{oldest_first, sets_and_openings, settings_by, steps_of_tries}
-use Rattle.run_coupling.proofs.Names.{tries_up_to, words_after}
+use Rattle.run_coupling.proofs.Names.{Opened, Set, SettingChange, is_done, settings_after, Settings}
+use Rattle.run_coupling.proofs.Names.{changed, AllSetByAnswer, Try, oldest_first, sets_and_openings}
+use Rattle.run_coupling.proofs.Names.{settings_by, steps_of_tries, tries_up_to, words_after}
 
 -- ---- lists the other way round
 
@@ -42,24 +40,12 @@ pub own-makings : (about : BoardSizes) (gs : List GateStep)
     → own_settings about gs ≡ own_settings about (filter_map set_or_opening gs)
 own-makings about [] = refl
 own-makings about (Set i v ∷ gs) = ap (λ s. with_setting s i v) (own-makings about gs)
-own-makings about (Opened ∷ gs) = own-makings about gs
-own-makings about (Entered w ∷ gs) = own-makings about gs
-own-makings about (Turned w ∷ gs) = own-makings about gs
-own-makings about (Left ∷ gs) = own-makings about gs
-own-makings about (Shut w ∷ gs) = own-makings about gs
-own-makings about (NotShut w ∷ gs) = own-makings about gs
-own-makings about (Read i v ∷ gs) = own-makings about gs
+own-makings about (g ∷ gs) = own-makings about gs
 
 pub openings-makings : (gs : List GateStep) → openings gs ≡ openings (filter_map set_or_opening gs)
 openings-makings [] = refl
-openings-makings (Set i v ∷ gs) = openings-makings gs
 openings-makings (Opened ∷ gs) = ap (λ n. n + 1) (openings-makings gs)
-openings-makings (Entered w ∷ gs) = openings-makings gs
-openings-makings (Turned w ∷ gs) = openings-makings gs
-openings-makings (Left ∷ gs) = openings-makings gs
-openings-makings (Shut w ∷ gs) = openings-makings gs
-openings-makings (NotShut w ∷ gs) = openings-makings gs
-openings-makings (Read i v ∷ gs) = openings-makings gs
+openings-makings (g ∷ gs) = openings-makings gs
 
 pub opened-makings : (about : BoardSizes) (n : ℕ) (gs : List GateStep)
     → own_settings about (opened n gs)
@@ -81,12 +67,7 @@ opened-makings about n (Opened ∷ gs) =
     ∙ sym (ap (own_settings about)
     (if_other (openings ms + 1) n (Opened ∷ ms) (opened n ms)
     (λ e. ne (ap (λ k. k + 1) same ∙ e))))))
-opened-makings about n (Entered w ∷ gs) = opened-makings about n gs
-opened-makings about n (Turned w ∷ gs) = opened-makings about n gs
-opened-makings about n (Left ∷ gs) = opened-makings about n gs
-opened-makings about n (Shut w ∷ gs) = opened-makings about n gs
-opened-makings about n (NotShut w ∷ gs) = opened-makings about n gs
-opened-makings about n (Read i v ∷ gs) = opened-makings about n gs
+opened-makings about n (g ∷ gs) = opened-makings about n gs
 
 pub makings-append : (xs ys : List BoardStep) → sets_and_openings (xs ++ ys)
     ≡ sets_and_openings xs ++ sets_and_openings ys
@@ -103,8 +84,7 @@ pub data Form (words : ℕ → ℕ) (sets : (ℕ → ℕ) → Command → List S
       → gs ≡ Opened ∷ Set m.word m.value ∷ [] → Form words sets c gs
   opens : is_done c.answer ≡ false → gs ≡ Opened ∷ [] → Form words sets c gs
   makes_none : (is_done c.answer ≡ false)
-      ⊎ ((is_done c.answer ≡ true) × (sets words c.command ≡ []))
-      → gs ≡ [] → Form words sets c gs
+      ⊎ ((is_done c.answer ≡ true) × (sets words c.command ≡ [])) → gs ≡ [] → Form words sets c gs
 
 pub form : (words : ℕ → ℕ) (sets : (ℕ → ℕ) → Command → List SettingChange) (c : Commanded)
     (gs : List GateStep) → SetsByAnswer words sets c gs → Form words sets c gs
@@ -160,8 +140,7 @@ module _ (about : BoardSizes) (sets : (ℕ → ℕ) → Command → List Setting
 
     -- what comes before an opening has no other
     pub count-opens : (t : Try) (ts : List Try) (rest : List GateStep) → sets_and_openings (f t)
-        ≡ Opened ∷ rest
-        → openings (rest ++ made ts) ≡ count ts → count (t ∷ ts) ≡ count ts + 1
+        ≡ Opened ∷ rest → openings (rest ++ made ts) ≡ count ts → count (t ∷ ts) ≡ count ts + 1
     count-opens t ts rest is none =
         ap openings (made-more t ts ∙ ap (λ gs. gs ++ made ts) is) ∙ ap (λ n. n + 1) none
 
@@ -202,8 +181,7 @@ module _ (about : BoardSizes) (sets : (ℕ → ℕ) → Command → List Setting
         ∙ (before ∙ ap words (sym (to-old n t ts (count-none t ts is))))
 
     same_by : (n : ℕ) (t : Try) (ts : List Try)
-        → Form (words ts) sets t.given (sets_and_openings (f t))
-        → Same n ts → Same n (t ∷ ts)
+        → Form (words ts) sets t.given (sets_and_openings (f t)) → Same n ts → Same n (t ∷ ts)
     same_by n t ts (sets_one m done one is) before =
         same-opens n t ts (Set m.word m.value ∷ []) is refl refl before
     same_by n t ts (opens fails is) before = same-opens n t ts [] is refl refl before
@@ -250,13 +228,11 @@ module _ (about : BoardSizes) (sets : (ℕ → ℕ) → Command → List Setting
 
     -- of two openings the earlier has the first ones of the tries of the later
     pub tries-grow : (m n : ℕ) (ts : List Try) → AllSetByAnswer about sets f ts → m ≤ n → n
-        ≤ count ts
-        → (more : List Try) × (tries_up_to f n ts ≡ more ++ tries_up_to f m ts)
+        ≤ count ts → (more : List Try) × (tries_up_to f n ts ≡ more ++ tries_up_to f m ts)
     tries-grow m n [] are le within = ([], refl)
     tries-grow m n (t ∷ ts) are le within =
         let old : tries_up_to f n (t ∷ ts) ≡ tries_up_to f n ts → tries_up_to f m (t ∷ ts)
-        ≡ tries_up_to f m ts
-        → n ≤ count ts → (more : List Try)
+        ≡ tries_up_to f m ts → n ≤ count ts → (more : List Try)
         × (tries_up_to f n (t ∷ ts) ≡ more ++ tries_up_to f m (t ∷ ts)) =
         λ a b small. (let r = tries-grow m n ts are.1 le small in
         (r.0, a ∙ (r.1 ∙ ap (λ z. r.0 ++ z) (sym b)))) in
@@ -310,15 +286,13 @@ given-append xs ys =
     ∙ turned-append (map (λ (t : Try). t.given) xs) (map (λ (t : Try). t.given) ys)
 
 -- the first commands of a history are those of the first tries
-pub take-given : (more ts : List Try)
-    → take (length ts) (given_by (more ++ ts)) ≡ given_by ts
+pub take-given : (more ts : List Try) → take (length ts) (given_by (more ++ ts)) ≡ given_by ts
 take-given more ts =
     ap (take (length ts)) (given-append more ts)
     ∙ (ap (λ n. take n (given_by ts ++ given_by more)) (sym (length-given ts))
     ∙ take-append_seam (given_by ts) (given_by more))
 
-pub drop-given : (more ts : List Try)
-    → drop (length ts) (given_by (more ++ ts)) ≡ given_by more
+pub drop-given : (more ts : List Try) → drop (length ts) (given_by (more ++ ts)) ≡ given_by more
 drop-given more ts =
     ap (drop (length ts)) (given-append more ts)
     ∙ (ap (λ n. drop n (given_by ts ++ given_by more)) (sym (length-given ts))

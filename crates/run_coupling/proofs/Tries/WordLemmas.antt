@@ -38,8 +38,7 @@ module _ (q : Queues) (s : Settings) (g : ℕ → ℕ) (w : ℕ → ℕ) (a : Ar
   after-mask : (r : ℕ) (mask : CpuMask) → r < Q → After (give.Mask r mask)
   after-mask r mask within =
       record {
-        masks = length-set s.masks r mask ∙ a.masks;
-        counts = a.counts;
+        masks = length-set s.masks r mask ∙ a.masks; counts = a.counts;
         mask = λ p lt.
             dite (ℕ_discrete r p)
             (λ e.
@@ -108,8 +107,7 @@ module _ (q : Queues) (s : Settings) (g : ℕ → ℕ) (w : ℕ → ℕ) (a : Ar
   after-sock : (n : ℕ) → After (give.Sock n)
   after-sock n =
       record {
-        masks = a.masks;
-        counts = a.counts;
+        masks = a.masks; counts = a.counts;
         mask = λ p lt.
             if_other (2 * Q) p (rounded_up n) (w p) (λ e. absurd (omega arith)) ∙ a.mask p lt;
         flows = λ p lt.
@@ -127,16 +125,14 @@ module _ (q : Queues) (s : Settings) (g : ℕ → ℕ) (w : ℕ → ℕ) (a : Ar
       (with_setting w (2 * Q + 1) mask.0)
   after-online mask =
       record {
-        masks = a.masks;
-        counts = a.counts;
+        masks = a.masks; counts = a.counts;
         mask = λ p lt.
             if_other (2 * Q + 1) p mask.0 (w p) (λ e. absurd (omega arith)) ∙ a.mask p lt;
         flows = λ p lt.
             if_other (2 * Q + 1) (Q + p) mask.0 (w (Q + p)) (λ e. absurd (omega arith))
             ∙ a.flows p lt;
         small = a.small;
-        sock =
-            if_other (2 * Q + 1) (2 * Q) mask.0 (w (2 * Q)) (λ e. absurd (omega arith)) ∙ a.sock;
+        sock = if_other (2 * Q + 1) (2 * Q) mask.0 (w (2 * Q)) (λ e. absurd (omega arith)) ∙ a.sock;
         online = if_same (2 * Q + 1) (2 * Q + 1) mask.0 (w (2 * Q + 1)) refl;
       }
 
@@ -146,8 +142,7 @@ same_words : (q : Queues) (s z : Settings) (g : ℕ → ℕ) (w : ℕ → ℕ) �
     → AreReceiveWords q z g w
 same_words q s z g w masks counts sock online a =
     record {
-      masks = ap length masks ∙ a.masks;
-      counts = ap length counts ∙ a.counts;
+      masks = ap length masks ∙ a.masks; counts = ap length counts ∙ a.counts;
       mask = λ p lt.
           a.mask p lt
           ∙ sym (ap (λ (ms : List CpuMask).
@@ -177,11 +172,7 @@ changes_with q s g w (give.Online cpu) fits some a =
     AreReceiveWords q (changed s (give.Online cpu)) g
     (with_setting w (2 * queues q + 1) (with_cpu (record { 0 = n }) cpu).0))
     (sym a.online) (after-online q s g w a (with_cpu s.online cpu))
-changes_with q s g w (give.XCpus tx cpus) fits some a = absurd (omega arith)
-changes_with q s g w (give.XQueues tx rxqs) fits some a = absurd (omega arith)
-changes_with q s g w (give.Reta place r) fits some a = absurd (omega arith)
-changes_with q s g w (give.Stand app cpu) fits some a = absurd (omega arith)
-changes_with q s g w give.Expire fits some a = absurd (omega arith)
+changes_with q s g w c fits some a = absurd (omega arith)
 
 -- a done command that makes none
 changes_none : (q : Queues) (s : Settings) (g : ℕ → ℕ) (w : ℕ → ℕ) (c : Command)
@@ -192,11 +183,7 @@ changes_none q s g w (give.Flows r n) none a = absurd (omega arith)
 changes_none q s g w (give.Sock n) none a = absurd (omega arith)
 changes_none q s g w (give.Offline cpu) none a = absurd (omega arith)
 changes_none q s g w (give.Online cpu) none a = absurd (omega arith)
-changes_none q s g w (give.XCpus tx cpus) none a = same_words q s _ g w refl refl refl refl a
-changes_none q s g w (give.XQueues tx rxqs) none a = same_words q s _ g w refl refl refl refl a
-changes_none q s g w (give.Reta place r) none a = same_words q s _ g w refl refl refl refl a
-changes_none q s g w (give.Stand app cpu) none a = same_words q s _ g w refl refl refl refl a
-changes_none q s g w give.Expire none a = same_words q s _ g w refl refl refl refl a
+changes_none q s g w c none a = same_words q s _ g w refl refl refl refl a
 
 -- a resize is a done command for the flow count
 gens-done : (t : Try) (ts : List Try) (p : ℕ) → is_done t.given.answer ≡ true

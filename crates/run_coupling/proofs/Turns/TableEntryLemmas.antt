@@ -1,8 +1,7 @@
 -- A producer's own table, told of its turns, has the entries of the lists.
 use Rattle.linearization.specs.Orders.{step_by}
 use Rattle.steer_base.specs.Entries.{entry}
-use Rattle.dev_flow_table.specs.Folds.{Agrees, TableIsEntries}
-use Rattle.dev_flow_table.specs.Folds.{Placement}
+use Rattle.dev_flow_table.specs.Folds.{Agrees, TableIsEntries, Placement}
 use Rattle.hop_rule.specs.Moments.{IsStep, moment_of, past}
 use Rattle.hop_rule.proofs.Moments.{past-next}
 use Rattle.hop_rule.proofs.Parts.{at_moment}
@@ -14,8 +13,8 @@ use Rattle.run_coupling.specs.Coupling.OwnTables.{as_told}
 use Rattle.run_coupling.specs.Coupling.Turns.{IsTurnOf}
 use Rattle.run_coupling.proofs.Names.{◌≡◌, ℕ, List, [], ◌∷◌, Some, map, All, sym, refl, ap, ◌∙◌}
 use Rattle.run_coupling.proofs.Names.{slice_get, All-cons, All-head, All-nil, All-tail, StepBy}
-use Rattle.run_coupling.proofs.Names.{nth_step, BoardSizes, BoardStep, nth-inside, nth-some}
-use Rattle.run_coupling.proofs.Names.{BoardLists, Turn, accepted_left}
+use Rattle.run_coupling.proofs.Names.{nth_step, BoardSizes, BoardStep, nth-some, BoardLists, Turn}
+use Rattle.run_coupling.proofs.Names.{accepted_left}
 
 head-same : {A : Type 0} (xs ys : List A) (x y : A) → x ∷ xs ≡ y ∷ ys → Some x ≡ Some y
 head-same xs ys x y e = ap (λ zs. slice_get zs 0) e
@@ -41,8 +40,7 @@ tables_are_entries about own lists law places_law t a p count exact us class all
     chosen-told [] = refl
     chosen-told (u ∷ us) = ap (λ cs. u.chosen ∷ cs) (chosen-told us)
 
-    agree : (u : Turn) → IsTurnOf t p u
-        → Agrees about.start (accepted_left lists) (as_told u)
+    agree : (u : Turn) → IsTurnOf t p u → Agrees about.start (accepted_left lists) (as_told u)
     agree u (i, at) =
         let q : ℕ = t.seat p in
         let x = at_moment p (t.turns q) i u at in

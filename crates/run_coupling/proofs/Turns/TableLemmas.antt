@@ -89,8 +89,7 @@ tables_rule about own lists law t r seen p i u turns_are journal goal_online b =
     record {
       head = b.head;
       rule =
-          b.rule
-          ∙ migrate-entries (class_seen about accepted t r seen p i u) u.chosen.choice.want
+          b.rule ∙ migrate-entries (class_seen about accepted t r seen p i u) u.chosen.choice.want
           (goal_seen about accepted t r seen p i u)
           (entries (table_before about.start t r seen b.count b.exact p i))
           (entry about.start accepted (before_seen about accepted t r seen p i)) (λ _. b.head)
@@ -123,12 +122,9 @@ drops_follow about own lists causes rise counted i h limits hashes =
           subst (AllExplained (packet_hash (setup_in i)))
           (λ j. record {
             accepted = (lane_at (sym limits.lanes j) c).accepted;
-            offers = [];
-            drops = (lane_at (sym limits.lanes j) c).drops;
+            offers = []; drops = (lane_at (sym limits.lanes j) c).drops;
             pulled = (lane_at (sym limits.lanes j) c).pulled;
-            limit = limits.limit j;
-            room = limits.room j;
-            start = limits.start j;
+            limit = limits.limit j; room = limits.room j; start = limits.start j;
             limited = has (limits.limited j) c;
           })
           (causes (packet_hash (setup_in i)) hashes c);
@@ -138,8 +134,7 @@ drops_follow about own lists causes rise counted i h limits hashes =
           (let n = counted.lanes in
           let a = rise l (omega arith) in
           record {
-            accepted = a.accepted_within;
-            pulled = a.pulled_within;
+            accepted = a.accepted_within; pulled = a.pulled_within;
             rise = λ k d e at next.
                 next-two (lane_at lists.lanes l).drops k d e at next a.accepted a.pulled;
           })));
