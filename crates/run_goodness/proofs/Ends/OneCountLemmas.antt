@@ -2,9 +2,8 @@
 -- the last.
 use Rattle.hop_rule.specs.Events.{sum_below}
 use Rattle.hop_rule.proofs.Gates.{sum_same}
-use Rattle.run_coupling.specs.Laws.OneCount.{KeepsCounts, OneCountSuffices}
-use Rattle.run_coupling.specs.Laws.OneCount.{TotalsAreEqual, choice_count, delivered_count}
-use Rattle.run_coupling.specs.Laws.OneCount.{dropped_count}
+use Rattle.run_coupling.specs.Laws.OneCount.{KeepsCounts, OneCountSuffices, TotalsAreEqual}
+use Rattle.run_coupling.specs.Laws.OneCount.{choice_count, delivered_count, dropped_count}
 use Rattle.run_coupling.specs.Coupling.Ends.{accepted_count, retired_count}
 use Rattle.run_coupling.proofs.Ends.PutCountLemmas.{puts-are-chosen}
 use Rattle.run_coupling.proofs.Ends.TotalLemmas.{all-delivered}
@@ -88,9 +87,7 @@ module _ (h : History) (rx : BoardSizes) (rx_own : ℕ → List BoardStep) (rx_l
         let e = puts-are-chosen tx tx_own applications h.tx_choices keeps.sent in
         let f = retired-below tx tx_own tx_lists tx_facts in
         record {
-          chosen = omega arith;
-          sent = omega arith;
-          replied = omega arith;
+          chosen = omega arith; sent = omega arith; replied = omega arith;
           received = λ done.
               (let g = sum_same (delivered_count rx rx_own) (retired_count rx rx_own) rx.lanes
               done in

@@ -31,8 +31,7 @@ all_are_sent about own lists sums h a within inboxes front all_replied =
 pub replies_keep_choices : RepliesKeepChoices
 replies_keep_choices sent choices s c same keeps =
     map-append (λ (c : Chosen). c.id) choices (c ∷ [])
-    ∙ ((λ k. keeps k ++ same k ∷ [])
-    ∙ sym (map-append (λ (s : Sent). s.id) sent (s ∷ [])))
+    ∙ ((λ k. keeps k ++ same k ∷ []) ∙ sym (map-append (λ (s : Sent). s.id) sent (s ∷ [])))
   where
     map-append : {A B : Type 0} (f : A → B) (xs ys : List A) → map f (xs ++ ys)
         ≡ map f xs ++ map f ys

@@ -17,8 +17,7 @@ prefix_through xs ys zs a b =
 
 prefix_kept : (set : ℕ → Bool) (xs ys : List ℕ) → IsPrefix xs ys
     → IsPrefix (filter set xs) (filter set ys)
-prefix_kept set xs ys a =
-    (filter set a.0, sym (filter-append set xs a.0) ∙ ap (filter set) a.1)
+prefix_kept set xs ys a = (filter set a.0, sym (filter-append set xs a.0) ∙ ap (filter set) a.1)
 
 -- without drops nothing was dropped
 none_dropped : (drops : List (List LaneDrop)) (x : ℕ) → ((c : ℕ) → get_or drops c [] ≡ [])
@@ -36,15 +35,13 @@ and_not_false false b e = refl
 abbrev with_head : Bool → ℕ → List ℕ → List ℕ
 with_head here x xs = if here then x ∷ xs else xs
 
-member-kept : (p : ℕ → Bool) (here : Bool) (y : ℕ) (xs : List ℕ)
-    → filter p (with_head here y xs)
+member-kept : (p : ℕ → Bool) (here : Bool) (y : ℕ) (xs : List ℕ) → filter p (with_head here y xs)
     ≡ (if here then with_head (p y) y (filter p xs) else filter p xs)
 member-kept p true y xs = refl
 member-kept p false y xs = refl
 
 pub narrower : (p q : ℕ → Bool) (xs : List ℕ)
-    → ((y : ℕ) → is_in y xs ≡ true → p y ≡ true → q y ≡ true)
-    → filter p (filter q xs) ≡ filter p xs
+    → ((y : ℕ) → is_in y xs ≡ true → p y ≡ true → q y ≡ true) → filter p (filter q xs) ≡ filter p xs
 narrower p q [] implies = refl
 narrower p q (x ∷ xs) implies =
     by_tests (p x) (q x) refl refl (implies x (is_in-here x x xs refl))

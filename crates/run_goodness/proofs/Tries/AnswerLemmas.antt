@@ -43,19 +43,12 @@ try_at (t ∷ ts) k c at = elim (slice-end (given_by ts) t.given k c at) [
   | inl old ↦
       let b = try_at ts k c old in
       record {
-        more = t ∷ b.more;
-        try = b.try;
-        older = b.older;
-        are = ap (λ z. t ∷ z) b.are;
-        count = b.count;
-        given = b.given;
+        more = t ∷ b.more; try = b.try; older = b.older; are = ap (λ z. t ∷ z) b.are;
+        count = b.count; given = b.given;
       }
   | inr new ↦
       record {
-        more = [];
-        try = t;
-        older = ts;
-        are = refl;
+        more = []; try = t; older = ts; are = refl;
         count = sym (new.0 ∙ length-given ts);
         given = new.1;
       }
@@ -77,8 +70,7 @@ steps-append f (t ∷ ts) ys =
 
 pub nth-here : {A : Type 0} (front : List A) (x : A) (back : List A)
     → nth_step (front ++ x ∷ back) (length back) ≡ Some x
-nth-here front x back =
-    nth-old front (x ∷ back) (length back) (omega arith) ∙ nth-last x back
+nth-here front x back = nth-old front (x ∷ back) (length back) (omega arith) ∙ nth-last x back
 
 busy_at : (i : Input) (h : History) (lanes : List LaneList) (f : Try → List BoardStep)
     (tries : List Try) (about : BoardSizes) (own : ℕ → List BoardStep) (lists : BoardLists)
@@ -96,8 +88,7 @@ busy_at i h lanes f tries about own lists board more t older are lane head tail 
     let front : List BoardStep = steps_of_tries f more ++ newest in
     let whole : own (closer about) ≡ front ++ c ∷ below =
     board.own_list
-    ∙ (ap (steps_of_tries f) are
-    ∙ (steps-append f more (t ∷ older)
+    ∙ (ap (steps_of_tries f) are ∙ (steps-append f more (t ∷ older)
     ∙ (ap (λ z. steps_of_tries f more ++ (z ++ steps_of_tries f older)) b.are
     ∙ sym (append_assoc (steps_of_tries f more) newest (c ∷ below))))) in
     let deep : own (closer about) ≡ (front ++ c ∷ []) ++ w ∷ past =
@@ -132,24 +123,16 @@ module _ (i : Input) (h : History) (tries : List Try) (rx tx : BoardSizes)
       inr (h.lanes, busy.Inside n, gate, is, (v.some, v.few))
   answer_is more t older are None (inr (inr (gate, inl (n, is, v)))) =
       inr (h.tx_lanes, busy.Inside n, gate, is, (v.some, v.few))
-  answer_is more t older are None (inr (inl (gate, inr (lane, head, tail, is, finds)))) =
-      inr (
-        h.lanes,
-        busy.NotEmpty lane head tail,
-        gate,
-        is,
-        busy_at i h h.lanes at_receive tries rx rx_own rx_lists a more t older are lane head tail
-            finds,
-      )
-  answer_is more t older are None (inr (inr (gate, inr (lane, head, tail, is, finds)))) =
-      inr (
-        h.tx_lanes,
-        busy.NotEmpty lane head tail,
-        gate,
-        is,
-        busy_at i h h.tx_lanes at_transmit tries tx tx_own tx_lists b more t older are lane
-            head tail finds,
-      )
+  answer_is more t older are None (inr (inl (gate, inr (lane, head, tail, is, finds)))) = inr (
+    h.lanes, busy.NotEmpty lane head tail, gate, is,
+    busy_at i h h.lanes at_receive tries rx rx_own rx_lists a more t older are lane head tail
+        finds,
+  )
+  answer_is more t older are None (inr (inr (gate, inr (lane, head, tail, is, finds)))) = inr (
+    h.tx_lanes, busy.NotEmpty lane head tail, gate, is,
+    busy_at i h h.tx_lanes at_transmit tries tx tx_own tx_lists b more t older are lane
+        head tail finds,
+  )
 
   answers : h.commands ≡ given_by tries → AllAnswered i h tries → (k : ℕ) (c : Commanded)
       → slice_get h.commands k ≡ Some c
@@ -175,8 +158,7 @@ module _ (i : Input) (h : History) (tries : List Try) (rx tx : BoardSizes)
       own)
 
 pub commands_follow : CommandsFollow
-commands_follow i h tries rx tx rx_own tx_own rx_lists tx_lists a b commands given all =
-    record {
-      given = given;
-      answers = answers i h tries rx tx rx_own tx_own rx_lists tx_lists a b commands all;
-    }
+commands_follow i h tries rx tx rx_own tx_own rx_lists tx_lists a b commands given all = record {
+  given = given;
+  answers = answers i h tries rx tx rx_own tx_own rx_lists tx_lists a b commands all;
+}

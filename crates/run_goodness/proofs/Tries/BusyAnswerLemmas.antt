@@ -231,8 +231,7 @@ busy_answers_are_true i h r k c why at is = by_board at_board
         (answered-later i h there.more (there.try ∷ there.older)
         (subst (AllAnswered i h) there.are r.commands.answered)).0 says_why
 
-    by_board : IsBusy i h there.try
-        → ((gate_lanes h c.command ≡ Some h.lanes)
+    by_board : IsBusy i h there.try → ((gate_lanes h c.command ≡ Some h.lanes)
         × WasBusy i r.rx r.rx_ended.order c.command why)
         ⊎ ((gate_lanes h c.command ≡ Some h.tx_lanes)
         × WasBusy i r.tx r.tx_ended.order c.command why)

@@ -29,13 +29,13 @@ use Rattle.run_goodness.proofs.Names.{at_receive, settings_by, tries_up_to}
 use Rattle.run_goodness.proofs.Turns.NumberLemmas as numbers
 use Rattle.run_goodness.proofs.Turns.OwnHeadLemmas.{migrate_own}
 use Rattle.run_coupling.proofs.Tries.ResizeLemmas.{flow_word, resized_between, since_same}
+use Rattle.run_coupling.proofs.Tries.ResizeLemmas.{resizes_by}
 use Rattle.run_coupling.proofs.Tries.TryLemmas.{drop-given, given_by}
 use Rattle.run_coupling.specs.Laws.Choices.{ChoicesFollow, ChoicesHaveTurns}
 use Rattle.run_coupling.specs.Coupling.Boards.{IsReceiveBoard}
 use Rattle.run_coupling.specs.Coupling.Inputs.{AreReceiveWords, FlowsHaveOneHash}
 use Rattle.run_coupling.specs.Coupling.Inputs.{NamesReceiveQueues, hash_of_flow}
 use Rattle.run_coupling.specs.Coupling.Tries.{KeepsReceiveTries}
-use Rattle.run_coupling.proofs.Tries.ResizeLemmas.{resizes_by}
 use Rattle.run_coupling.proofs.Tries.OpeningLemmas.{settings_of_opening, words_of_opening}
 use Rattle.run_coupling.proofs.Tries.OpeningLemmas as opening_lemmas
 
@@ -87,8 +87,7 @@ module _ (i : Input) (p : ℕ) (z : ℕ → ℕ) (s : Settings) (g : ℕ → ℕ
           ∙ (λ k. rps_choice_of (mask (words.mask p within k)) (same k) (online-is k)
           (slice_index qs.homes p))
 
-      goal-is : (class want : Option ℕ)
-          → goal_of rs z p (rs.flow x) class want
+      goal-is : (class want : Option ℕ) → goal_of rs z p (rs.flow x) class want
           ≡ desired_cpu class want s.online (plain_lane su s p x)
       goal-is None want = plain-is
       goal-is (Some class) None = plain-is
@@ -159,8 +158,7 @@ module _ (i : Input) (h : History) (about : BoardSizes) (own : ℕ → List Boar
         shape-is i p (shown (number p k)) (after (number p k))
         (λ c. resizes_by c (upto (number p k))) within (words-at (number p k))
 
-    between : (k : ℕ) → k + 1 < length (turns_of t p)
-        → list_any (is_resize p)
+    between : (k : ℕ) → k + 1 < length (turns_of t p) → list_any (is_resize p)
         (drop (length (upto (number p k))) (take (length (upto (number p (suc k)))) h.commands))
         ≡ not (shape p k == shape p (suc k))
     between k less =
@@ -170,8 +168,7 @@ module _ (i : Input) (h : History) (about : BoardSizes) (own : ℕ → List Boar
         let old = (words-at (number p k)).small p within in
         ap (λ cs. list_any (is_resize p) (drop (length a) cs))
         (take-upto (number p (suc k)) ∙ ap given_by g.1)
-        ∙ (ap (list_any (is_resize p)) (drop-given g.0 a)
-        ∙ (resized_between first p g.0 a
+        ∙ (ap (list_any (is_resize p)) (drop-given g.0 a) ∙ (resized_between first p g.0 a
         (subst (λ ts. slice_index (settings_by first ts).counts p < 2 ^ 32) g.1 small) old
         ∙ (λ j. not (sym (shape-at k) j
         == sym (shape-at (suc k) ∙ ap (flow_word first p) g.1) j))))
@@ -181,8 +178,7 @@ module _ (i : Input) (h : History) (about : BoardSizes) (own : ℕ → List Boar
 
     since-is : (k : ℕ) → k < length (turns_of t p)
         → since_resize (shape p) k ≡ since_at h.commands p at k
-    since-is k less =
-        since_same (shape p) h.commands p at k (λ j l. between j (omega arith))
+    since-is k less = since_same (shape p) h.commands p at k (λ j l. between j (omega arith))
 
     -- what a good history says of a choice
     abbrev Says : ℕ → List Chosen → Chosen → Settings → ℕ → Type 0
@@ -251,16 +247,15 @@ module _ (i : Input) (h : History) (about : BoardSizes) (own : ℕ → List Boar
       ]
 
   pub choices_follow : AreByRule i h (commands_before tries t)
-  choices_follow =
-      record {
-        prefixes = λ p.
-            (let size = ap length (keeps.journals p) in
-            let many = keeps.counted p in
-            numbers.prefixes about own lists law sets at_receive tries kept.own_list kept.are t
-            keeps.explained p (length h.commands) (list_at h.choices p) (omega arith)
-            length-upto);
-        each = by_rule;
-      }
+  choices_follow = record {
+    prefixes = λ p.
+        (let size = ap length (keeps.journals p) in
+        let many = keeps.counted p in
+        numbers.prefixes about own lists law sets at_receive tries kept.own_list kept.are t
+        keeps.explained p (length h.commands) (list_at h.choices p) (omega arith)
+        length-upto);
+    each = by_rule;
+  }
 
 pub choices_of_closing : (about : BoardSizes) (own : ℕ → List BoardStep) (lists : BoardLists)
     → VisitNumbersRise about own lists → ChoicesFollow about own lists

@@ -25,8 +25,7 @@ cut u newer late older =
 
 -- the i-th of a producer's turns is the newest turn, or one of the others
 newest : (t : StepBy Turn) (ts : List (StepBy Turn)) (p k : ℕ) (u : Turn)
-    → nth_step (steps_of p (t ∷ ts)) k ≡ Some u
-    → (nth_step (steps_of p ts) k ≡ Some u)
+    → nth_step (steps_of p (t ∷ ts)) k ≡ Some u → (nth_step (steps_of p ts) k ≡ Some u)
     ⊎ ((t.step ≡ u) × (k ≡ length (steps_of p ts)))
 newest t ts p k u at =
     let others : List Turn = steps_of p ts in
@@ -57,8 +56,7 @@ entry-at ds (t ∷ ts) (newer, late, older, is, no_puts, quiet_late, quiet, rest
           let b = entry-at older ts rest p k u old in
           let less = nth-inside older b.0 (entry u) b.1 in (
             b.0,
-            ap (λ z. nth_step z b.0) (whole
-                ∙ sym (append_assoc c.0 (entry t.step ∷ []) older))
+            ap (λ z. nth_step z b.0) (whole ∙ sym (append_assoc c.0 (entry t.step ∷ []) older))
                 ∙ (nth-old (c.0 ++ entry t.step ∷ []) older b.0 less ∙ b.1),
           )
       | inr new ↦ (
@@ -96,10 +94,7 @@ entries-rise ds (t ∷ ts) (newer, late, older, is, no_puts, quiet_late, quiet, 
       | inr new_v ↦ elim (newest t ts p j u at_u) [
         | inl old_u ↦
             let b = entry-at older ts rest p j u old_u in (
-              b.0,
-              length older,
-              nth-inside older b.0 (entry u) b.1,
-              lift b.0 (entry u) b.1,
+              b.0, length older, nth-inside older b.0 (entry u) b.1, lift b.0 (entry u) b.1,
               ap (λ z. nth_step z (length older)) whole
                   ∙ (nth-old c.0 (entry t.step ∷ older) (length older) (omega arith)
                   ∙ (nth-last (entry t.step) older ∙ ap (λ z. Some (entry z)) new_v.0)),

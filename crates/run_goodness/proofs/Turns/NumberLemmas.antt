@@ -55,15 +55,14 @@ module _ (about : BoardSizes) (own : ℕ → List BoardStep) (lists : BoardLists
   pub prefixes : (p commands : ℕ) (choices : List Chosen)
       → length choices ≡ length (turns_of t p) → ((n : ℕ) → length (upto n) ≤ commands)
       → Prefixes (length choices) commands (λ k. length (upto (number p k)))
-  prefixes p commands choices many few =
-      record {
-        within = λ k less. few (number p k);
-        grow = λ k less.
-            (let g = grows p k (omega arith) in
-            let a = ap length g.1 in
-            let b = length-append g.0 (upto (number p k)) in
-            let fewer : length (upto (number p k)) ≤ length (upto (number p (suc k))) = omega arith
-            in
-            let next : suc k ≡ k + 1 = omega arith in
-            subst (λ n. length (upto (number p k)) ≤ length (upto (number p n))) next fewer);
-      }
+  prefixes p commands choices many few = record {
+    within = λ k less. few (number p k);
+    grow = λ k less.
+        (let g = grows p k (omega arith) in
+        let a = ap length g.1 in
+        let b = length-append g.0 (upto (number p k)) in
+        let fewer : length (upto (number p k)) ≤ length (upto (number p (suc k))) = omega arith
+        in
+        let next : suc k ≡ k + 1 = omega arith in
+        subst (λ n. length (upto (number p k)) ≤ length (upto (number p n))) next fewer);
+  }

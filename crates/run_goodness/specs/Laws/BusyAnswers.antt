@@ -38,7 +38,5 @@ abbrev pub BusyAnswersAreTrue : Type 0
 BusyAnswersAreTrue =
     (i : Input) (h : History) (r : IsRun i h) (k : ℕ) (c : Commanded) (why : Busy)
     → slice_get h.commands k ≡ Some c → c.answer ≡ says.Busy why
-    → ((gate_lanes h c.command ≡ Some h.lanes)
-    × WasBusy i r.rx r.rx_ended.order c.command why)
-    ⊎ ((gate_lanes h c.command ≡ Some h.tx_lanes)
-    × WasBusy i r.tx r.tx_ended.order c.command why)
+    → ((gate_lanes h c.command ≡ Some h.lanes) × WasBusy i r.rx r.rx_ended.order c.command why)
+    ⊎ ((gate_lanes h c.command ≡ Some h.tx_lanes) × WasBusy i r.tx r.tx_ended.order c.command why)

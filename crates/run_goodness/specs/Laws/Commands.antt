@@ -11,9 +11,8 @@ use Rattle.steer_model.specs.Good.Commands.{AreGiven, CommandsAreGiven}
 use Rattle.steer_model.specs.Good.Inputs.{Input}
 use Rattle.run_goodness.specs.Laws.BusyLanes.{BusyLanesAreBusy}
 use Rattle.run_coupling.specs.Coupling.Answers.{AllAnswered}
-use Rattle.run_coupling.specs.Coupling.Tries.{Try, at_receive, at_transmit}
+use Rattle.run_coupling.specs.Coupling.Tries.{Try, at_receive, at_transmit, steps_of_tries}
 use Rattle.run_words.specs.Lists.{oldest_first}
-use Rattle.run_coupling.specs.Coupling.Tries.{steps_of_tries}
 
 -- A board of a run leaves these lanes of the history, and the controller's own list there is that
 -- of
