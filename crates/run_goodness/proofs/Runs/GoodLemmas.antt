@@ -8,7 +8,7 @@ use Rattle.steer_model.specs.Good.Commands.{IsAnswer, IsEnd}
 use Rattle.steer_model.specs.Good.Deliveries.{IsSteered}
 use Rattle.steer_model.specs.Good.GoodHistory.{Good}
 use Rattle.steer_model.specs.Good.Replies.{RepliesAreByRule}
-use Rattle.run_goodness.specs.Laws.GoodRuns.{RunsAreGood}
+use Rattle.run_goodness.specs.Laws.{RunsAreGood}
 use Rattle.run_goodness.proofs.Names.{◌≡◌, inl, inr, ℕ, true, List, [], ◌∷◌, ◌++◌, Option, Some}
 use Rattle.run_goodness.proofs.Names.{None, length, All, map, sym, refl, ap, ◌∙◌, get_or}
 use Rattle.run_goodness.proofs.Names.{All-from_get_or, slice_get-get_or, Command, Refused, Chosen}

@@ -20,7 +20,7 @@ use Rattle.run_goodness.proofs.Names.{History, BoardSizes, BoardStep, BoardLists
 use Rattle.run_goodness.proofs.Names.{receive_steering, Execution, Input, setup_in, app_for}
 use Rattle.run_goodness.proofs.Names.{commands_before, receive_queues, Try, StandOnce, at_in}
 use Rattle.run_goodness.proofs.Names.{BoardFacts, IsWithinPlan}
-use Rattle.run_goodness.proofs.Ends.InboxLemmas.{inboxes_follow}
+use Rattle.run_goodness.proofs.Ends.{inboxes_follow}
 use Rattle.run_coupling.proofs.Lists.PlaceLemmas.{AreNumbered, apart_from, once_from}
 use Rattle.run_coupling.proofs.Runs.QueueLemmas as queues
 use Rattle.run_coupling.proofs.Runs.StandLemmas as stand

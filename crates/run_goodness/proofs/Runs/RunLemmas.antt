@@ -28,17 +28,15 @@ use Rattle.run_goodness.proofs.Names.{nth_step, BoardStep, own_in, Has, receive_
 use Rattle.run_goodness.proofs.Names.{setup_in, app_for, flow_number_of, packet_hash}
 use Rattle.run_goodness.proofs.Names.{receive_queues, IsRun, Try, StandOnce, at_in, BoardFacts}
 use Rattle.run_goodness.proofs.Names.{turn-at, IsWithinPlan}
-use Rattle.run_goodness.proofs.Ends.OutLemmas.{all_are_sent}
+use Rattle.run_goodness.proofs.Ends.{all_are_sent, end_to_end}
 use Rattle.run_coupling.proofs.Ends.TotalLemmas.{replies_suffice}
-use Rattle.run_goodness.proofs.Lists.OrderLemmas.{end_to_end}
 use Rattle.run_coupling.proofs.Lists.PlaceLemmas.{arrived_somewhere, in_at}
 use Rattle.run_coupling.proofs.Runs.FactLemmas.{facts_at_closings}
 use Rattle.run_coupling.proofs.Runs.PutTurnLemmas.{put-of}
 use Rattle.run_goodness.proofs.Runs.ReceiveLemmas as receives
 use Rattle.run_coupling.proofs.Runs.StandLemmas as stand
 use Rattle.run_goodness.proofs.Runs.TransmitLemmas as transmits
-use Rattle.run_goodness.proofs.Tries.AnswerLemmas.{commands_follow}
-use Rattle.run_goodness.proofs.Tries.BusyLemmas.{busy_lanes}
+use Rattle.run_goodness.proofs.Tries.AnswerLemmas.{commands_follow, busy_lanes}
 use Rattle.run_goodness.proofs.Turns.HeadLemmas.{heads_of_closing}
 use Rattle.hop_delivery.proofs.Closings.PutPlaceLemmas.{said, turn_of, turns_put_once}
 use Rattle.run_coupling.proofs.Turns.TableLemmas.{drops_follow}

@@ -36,7 +36,7 @@ use Rattle.run_goodness.proofs.Names.{none-some, some-is, BoardLists, accepted_l
 use Rattle.run_goodness.proofs.Names.{Execution, Input, setup_in, flow_number_of, RepliesAreBy}
 use Rattle.run_goodness.proofs.Names.{commands_before_reply, Try, StandOnce, at_in, BoardFacts}
 use Rattle.run_goodness.proofs.Names.{turn-at, IsWithinPlan}
-use Rattle.run_goodness.proofs.Ends.InboxLemmas.{any-is}
+use Rattle.run_goodness.proofs.Ends.{any-is}
 use Rattle.run_coupling.proofs.Lists.PlaceLemmas.{apart_from, once_from}
 use Rattle.run_coupling.proofs.Runs.ApplicationLemmas as apps
 use Rattle.run_coupling.proofs.Runs.StandLemmas as stand

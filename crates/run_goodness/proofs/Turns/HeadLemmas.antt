@@ -20,10 +20,10 @@ use Rattle.run_goodness.proofs.Names.{Passed, Same, lane_at, chosen_at, nobody, 
 use Rattle.run_goodness.proofs.Names.{BoardSizes, BoardStep, Weighed, none-some, some-is}
 use Rattle.run_goodness.proofs.Names.{nth-inside, nth-last, nth-old, nth-some, Has, BoardLists}
 use Rattle.run_goodness.proofs.Names.{Steering, Execution, turns_of, Explained, Turn, accepted_left}
-use Rattle.run_goodness.proofs.Tries.BusyLemmas.{shown}
+use Rattle.run_goodness.proofs.Tries.AnswerLemmas.{shown}
 use Rattle.run_coupling.proofs.Turns.TableEntryLemmas.{nth-moment}
 use Rattle.run_goodness.proofs.Turns.ChoiceLemmas.{get-or}
-use Rattle.run_goodness.specs.Laws.Heads.{HeadsFollow}
+use Rattle.run_goodness.specs.Laws.{HeadsFollow}
 
 -- ---- a choice that keeps a head
 

@@ -23,8 +23,7 @@ use Rattle.run_goodness.proofs.Names.{flow_number_of, packet_hash, initial_setti
 use Rattle.run_goodness.proofs.Names.{commands_before_reply, Try, at_transmit, settings_by}
 use Rattle.run_goodness.proofs.Names.{tries_up_to}
 use Rattle.run_goodness.proofs.Turns.NumberLemmas as numbers
-use Rattle.run_goodness.proofs.Turns.OwnHeadLemmas.{migrate_own}
-use Rattle.run_goodness.proofs.Turns.ChoiceLemmas.{get-or}
+use Rattle.run_goodness.proofs.Turns.ChoiceLemmas.{migrate_own, get-or}
 use Rattle.run_coupling.specs.Laws.Replies.{RepliesFollow, RepliesHaveTurns}
 use Rattle.run_coupling.specs.Coupling.Boards.{IsTransmitBoard}
 use Rattle.run_coupling.specs.Coupling.Inputs.{AreTransmitWords, NamesTransmitQueues}
