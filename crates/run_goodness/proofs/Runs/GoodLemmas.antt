@@ -106,8 +106,7 @@ module _ (i : Input) (h : History) (run : IsRun i h) where
   steered : Rattle.history.specs.Regular.AreSteered h
   steered =
       receives.are-steered i h run.rx rx_own run.rx_lists (runs.rx-facts i h run) run.tries
-      run.queues
-      run.queues_seen run.input run.commands run.received
+      run.queues run.queues_seen run.input run.commands run.received
 
   delivered : Rattle.history.specs.Regular.AreDelivered i.packets (length i.plan.apps) h
   delivered =
@@ -170,8 +169,7 @@ module _ (i : Input) (h : History) (run : IsRun i h) where
     arrived = runs.has-arrived-all i h run;
     queues = hints.queues-are-seen i h run;
     choices =
-        receives.choices-by-rule i h run.rx rx_own run.rx_lists (runs.rx-facts i h run)
-        run.tries
+        receives.choices-by-rule i h run.rx rx_own run.rx_lists (runs.rx-facts i h run) run.tries
         run.queues run.queues_seen run.input run.commands run.received;
     wants = hints.wants-are-written i h run;
     heads = runs.heads i h run; drops = runs.drops i h run;

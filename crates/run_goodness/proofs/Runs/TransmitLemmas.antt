@@ -97,15 +97,13 @@ module _ (i : Input) (h : History) (rx : BoardSizes) (rx_own : ℕ → List Boar
   pub turns : Rattle.hop_delivery.specs.Closings.PutPlaces.AreTurnsOf own t
   turns =
       apps.are-turns i h rx rx_own rx_lists rx_facts inboxes inboxes_stand about own lists facts
-      tries
-      t seen within coupling
+      tries t seen within coupling
 
   pub once : (p q j k x : ℕ) → slice_get (t.arrivals p) j ≡ Some x
       → slice_get (t.arrivals q) k ≡ Some x → (p ≡ q) × (j ≡ k)
   once =
       apps.reply-once i h rx rx_own rx_lists rx_facts inboxes inboxes_stand about own lists facts
-      tries
-      t seen within coupling
+      tries t seen within coupling
 
   pub front : (a : ℕ) → IsPrefix (replies_of h a) (list_at h.inboxes a)
   front =

@@ -47,9 +47,8 @@ module _ (class : ℕ) (want : Option ℕ) (desired tail current : ℕ) where
 
   abbrev by_bools : Bool → Bool → Bool → ℕ → Choice
   by_bools same off reached head =
-      if same then choice None current Same else
-      if off then choice None desired Offline else
-      if reached then choice (Some head) desired Passed else choice (Some head) current Kept
+      if same then choice None current Same else if off then choice None desired Offline else if
+      reached then choice (Some head) desired Passed else choice (Some head) current Kept
 
   own_head : (same off : Bool) (f : ℕ → Bool) (head : ℕ) → by_bools same off (f head) head
       ≡ (let own : ℕ = unwrap_or (by_bools same off (f head) head).head 0 in

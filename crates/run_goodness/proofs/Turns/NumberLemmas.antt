@@ -1,5 +1,5 @@
--- The entries of a producer's turns stand in its seat's own list, in the order of the turns, and the
--- numbers of its visits count the controller's openings, and with them its tries.
+-- The entries of a producer's turns stand in its seat's own list, in the order of the turns, and
+-- the numbers of its visits count the controller's openings, and with them its tries.
 use mathlib.Core.Logic.{dite}
 use native.Mathlib.Decide.{ℕ_discrete}
 use Rattle.linearization.specs.Orders.{StepBy, steps_of}
