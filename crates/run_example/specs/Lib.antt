@@ -1,4 +1,2 @@
-pub mod Plays
 pub mod Moves
-pub mod Plans
 pub mod MovingRun

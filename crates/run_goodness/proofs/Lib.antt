@@ -1,5 +1,4 @@
 pub mod Names
-pub mod Lists
 pub mod Tries
 pub mod Turns
 pub mod Ends

@@ -1,4 +1,2 @@
 pub mod AnswerLemmas
-pub mod BusyLemmas
 pub mod SizeLemmas
-pub mod BusyAnswerLemmas

@@ -9,12 +9,8 @@ ghost use Rattle.run_coupling.specs.Laws.Ends.{TotalsSuffice};
 ghost use Rattle.run_coupling.specs.Laws.OneCount.{OneCountSuffices};
 ghost use Rattle.run_coupling.specs.Laws.OwnTables.{TablesAreEntries, TablesRule};
 ghost use Rattle.run_coupling.specs.Laws.Replies.{RepliesFollow};
-ghost use Rattle.run_goodness.specs.Laws.BusyAnswers.{BusyAnswersAreTrue};
-ghost use Rattle.run_goodness.specs.Laws.BusyLanes.{BusyLanesAreBusy};
-ghost use Rattle.run_goodness.specs.Laws.Commands.{CommandsFollow};
-ghost use Rattle.run_goodness.specs.Laws.GoodRuns.{RunsAreGood};
-ghost use Rattle.run_goodness.specs.Laws.Heads.{HeadsFollow};
-ghost use Rattle.run_goodness.specs.Laws.Orders.{InboxesFollow};
+ghost use Rattle.run_goodness.specs.Laws.{BusyAnswersAreTrue, BusyLanesAreBusy, CommandsFollow};
+ghost use Rattle.run_goodness.specs.Laws.{RunsAreGood, HeadsFollow, InboxesFollow};
 
 /// Lemma: a table that was told of each of its producer's turns has the entries of the lists, so a
 /// choice by it is by the rule over these.

@@ -8,7 +8,7 @@ use Rattle.steer_model.specs.Good.Commands.{IsAnswer, IsEnd}
 use Rattle.steer_model.specs.Good.Deliveries.{IsSteered}
 use Rattle.steer_model.specs.Good.GoodHistory.{Good}
 use Rattle.steer_model.specs.Good.Replies.{RepliesAreByRule}
-use Rattle.run_goodness.specs.Laws.GoodRuns.{RunsAreGood}
+use Rattle.run_goodness.specs.Laws.{RunsAreGood}
 use Rattle.run_goodness.proofs.Names.{◌≡◌, inl, inr, ℕ, true, List, [], ◌∷◌, ◌++◌, Option, Some}
 use Rattle.run_goodness.proofs.Names.{None, length, All, map, sym, refl, ap, ◌∙◌, get_or}
 use Rattle.run_goodness.proofs.Names.{All-from_get_or, slice_get-get_or, Command, Refused, Chosen}
@@ -60,46 +60,44 @@ module _ (i : Input) (h : History) (run : IsRun i h) where
       (slice_get-get_or h.commands k (record { command = give.Expire; answer = says.Done }) less))))
 
   matched : AreMatched (length i.plan.apps) h
-  matched =
-      record {
-        choices = run.received.queues.choice_lists ∙ sym run.received.queues.taken_lists;
-        inboxes =
-            ap length run.received.board.inboxes
-            ∙ ((runs.rx-facts i h run).counted.outs ∙ run.received.board.out_count);
-        sent = run.sent.applications.sent_lists;
-        tx_choices = run.sent.applications.choice_lists;
-        writes = run.sent.applications.write_lists;
-      }
+  matched = record {
+    choices = run.received.queues.choice_lists ∙ sym run.received.queues.taken_lists;
+    inboxes =
+        ap length run.received.board.inboxes
+        ∙ ((runs.rx-facts i h run).counted.outs ∙ run.received.board.out_count);
+    sent = run.sent.applications.sent_lists;
+    tx_choices = run.sent.applications.choice_lists;
+    writes = run.sent.applications.write_lists;
+  }
 
   replies : AreReplies i.packets h
-  replies =
-      record {
-        sent =
-            transmits.front i h run.rx rx_own run.rx_lists (runs.rx-facts i h run)
-            run.received.board.inboxes (runs.inboxes-stand i h run) run.tx tx_own run.tx_lists
-            (runs.tx-facts i h run) run.tries run.applications run.maps_seen (runs.within i h run)
-            run.sent;
-        queue = hints.queues-of-replies i h run;
-        chosen = λ a. (
-          [],
-          append-none (map (λ (c : Chosen). c.id) (list_at h.tx_choices a))
-              ∙ transmits.all-chosen i h run.rx rx_own run.rx_lists (runs.rx-facts i h run)
-              run.received.board.inboxes (runs.inboxes-stand i h run) run.tx tx_own run.tx_lists
-              (runs.tx-facts i h run) run.tries run.applications run.maps_seen
-              (runs.within i h run)
-              run.sent a,
-        );
-        class =
-            transmits.classes i h run.rx rx_own run.rx_lists (runs.rx-facts i h run)
-            run.received.board.inboxes (runs.inboxes-stand i h run) run.tx tx_own run.tx_lists
-            (runs.tx-facts i h run) run.tries run.applications run.maps_seen (runs.within i h run)
-            run.sent;
-        want =
-            transmits.wants i h run.rx rx_own run.rx_lists (runs.rx-facts i h run)
-            run.received.board.inboxes (runs.inboxes-stand i h run) run.tx tx_own run.tx_lists
-            (runs.tx-facts i h run) run.tries run.applications run.maps_seen (runs.within i h run)
-            run.sent;
-      }
+  replies = record {
+    sent =
+        transmits.front i h run.rx rx_own run.rx_lists (runs.rx-facts i h run)
+        run.received.board.inboxes (runs.inboxes-stand i h run) run.tx tx_own run.tx_lists
+        (runs.tx-facts i h run) run.tries run.applications run.maps_seen (runs.within i h run)
+        run.sent;
+    queue = hints.queues-of-replies i h run;
+    chosen = λ a. (
+      [],
+      append-none (map (λ (c : Chosen). c.id) (list_at h.tx_choices a))
+          ∙ transmits.all-chosen i h run.rx rx_own run.rx_lists (runs.rx-facts i h run)
+          run.received.board.inboxes (runs.inboxes-stand i h run) run.tx tx_own run.tx_lists
+          (runs.tx-facts i h run) run.tries run.applications run.maps_seen
+          (runs.within i h run)
+          run.sent a,
+    );
+    class =
+        transmits.classes i h run.rx rx_own run.rx_lists (runs.rx-facts i h run)
+        run.received.board.inboxes (runs.inboxes-stand i h run) run.tx tx_own run.tx_lists
+        (runs.tx-facts i h run) run.tries run.applications run.maps_seen (runs.within i h run)
+        run.sent;
+    want =
+        transmits.wants i h run.rx rx_own run.rx_lists (runs.rx-facts i h run)
+        run.received.board.inboxes (runs.inboxes-stand i h run) run.tx tx_own run.tx_lists
+        (runs.tx-facts i h run) run.tries run.applications run.maps_seen (runs.within i h run)
+        run.sent;
+  }
     where
       append-none : {A : Type 0} (xs : List A) → xs ++ [] ≡ xs
       append-none [] = refl
@@ -108,8 +106,7 @@ module _ (i : Input) (h : History) (run : IsRun i h) where
   steered : Rattle.history.specs.Regular.AreSteered h
   steered =
       receives.are-steered i h run.rx rx_own run.rx_lists (runs.rx-facts i h run) run.tries
-      run.queues
-      run.queues_seen run.input run.commands run.received
+      run.queues run.queues_seen run.input run.commands run.received
 
   delivered : Rattle.history.specs.Regular.AreDelivered i.packets (length i.plan.apps) h
   delivered =
@@ -117,34 +114,30 @@ module _ (i : Input) (h : History) (run : IsRun i h) where
       run.queues run.queues_seen run.input run.commands run.received
 
   regular : Regular i.packets (length i.plan.apps) h
-  regular =
-      record {
-        matched = matched;
-        arrived =
-            receives.have-arrived i h run.rx rx_own run.rx_lists (runs.rx-facts i h run) run.tries
-            run.queues run.queues_seen run.input run.commands run.received;
-        steered = steered;
-        delivered = delivered;
-        replies = replies;
-        shipped =
-            transmits.are-shipped i h run.rx rx_own run.rx_lists (runs.rx-facts i h run)
-            run.received.board.inboxes (runs.inboxes-stand i h run) run.tx tx_own run.tx_lists
-            (runs.tx-facts i h run) run.tries run.applications run.maps_seen (runs.within i h run)
-            run.sent;
-        answers = answers-have-texts;
-      }
+  regular = record {
+    matched = matched;
+    arrived =
+        receives.have-arrived i h run.rx rx_own run.rx_lists (runs.rx-facts i h run) run.tries
+        run.queues run.queues_seen run.input run.commands run.received;
+    steered = steered; delivered = delivered; replies = replies;
+    shipped =
+        transmits.are-shipped i h run.rx rx_own run.rx_lists (runs.rx-facts i h run)
+        run.received.board.inboxes (runs.inboxes-stand i h run) run.tx tx_own run.tx_lists
+        (runs.tx-facts i h run) run.tries run.applications run.maps_seen (runs.within i h run)
+        run.sent;
+    answers = answers-have-texts;
+  }
 
   is-steered : IsSteered i h
-  is-steered =
-      record {
-        regular = regular;
-        places =
-            receives.one-place i h run.rx rx_own run.rx_lists (runs.rx-facts i h run) run.tries
-            run.queues run.queues_seen run.input run.commands run.received;
-        order =
-            receives.in-order i h run.rx rx_own run.rx_lists (runs.rx-facts i h run) run.tries
-            run.queues run.queues_seen run.input run.commands run.received;
-      }
+  is-steered = record {
+    regular = regular;
+    places =
+        receives.one-place i h run.rx rx_own run.rx_lists (runs.rx-facts i h run) run.tries
+        run.queues run.queues_seen run.input run.commands run.received;
+    order =
+        receives.in-order i h run.rx rx_own run.rx_lists (runs.rx-facts i h run) run.tries
+        run.queues run.queues_seen run.input run.commands run.received;
+  }
 
   by-rule : RepliesAreBy i h (commands_before_reply run.tries run.applications)
   by-rule =
@@ -154,43 +147,36 @@ module _ (i : Input) (h : History) (run : IsRun i h) where
       run.sent
 
   replies-by-rule : RepliesAreByRule i h (commands_before_reply run.tries run.applications)
-  replies-by-rule =
-      record {
-        sent = λ a. (record {
-          first = replies.sent a;
-          queue = hints.queues-of-replies i h run a;
-          stood = hints.stood-of-replies i h run a;
-        });
-        prefixes = by-rule.prefixes;
-        each = by-rule.each;
-        places =
-            transmits.one-place i h run.rx rx_own run.rx_lists (runs.rx-facts i h run)
-            run.received.board.inboxes (runs.inboxes-stand i h run) run.tx tx_own run.tx_lists
-            (runs.tx-facts i h run) run.tries run.applications run.maps_seen (runs.within i h run)
-            run.sent;
-        leave = runs.leave i h run;
-      }
+  replies-by-rule = record {
+    sent = λ a. (record {
+      first = replies.sent a;
+      queue = hints.queues-of-replies i h run a;
+      stood = hints.stood-of-replies i h run a;
+    });
+    prefixes = by-rule.prefixes; each = by-rule.each;
+    places =
+        transmits.one-place i h run.rx rx_own run.rx_lists (runs.rx-facts i h run)
+        run.received.board.inboxes (runs.inboxes-stand i h run) run.tx tx_own run.tx_lists
+        (runs.tx-facts i h run) run.tries run.applications run.maps_seen (runs.within i h run)
+        run.sent;
+    leave = runs.leave i h run;
+  }
 
   good : Good i h
-  good =
-      record {
-        at = commands_before run.tries run.queues;
-        tx_at = commands_before_reply run.tries run.applications;
-        arrived = runs.has-arrived-all i h run;
-        queues = hints.queues-are-seen i h run;
-        choices =
-            receives.choices-by-rule i h run.rx rx_own run.rx_lists (runs.rx-facts i h run)
-            run.tries
-            run.queues run.queues_seen run.input run.commands run.received;
-        wants = hints.wants-are-written i h run;
-        heads = runs.heads i h run;
-        drops = runs.drops i h run;
-        steered = is-steered;
-        swept = runs.swept i h run;
-        writes = hints.writes-are-right i h run;
-        commands = runs.commands i h run;
-        replies = replies-by-rule;
-      }
+  good = record {
+    at = commands_before run.tries run.queues;
+    tx_at = commands_before_reply run.tries run.applications;
+    arrived = runs.has-arrived-all i h run;
+    queues = hints.queues-are-seen i h run;
+    choices =
+        receives.choices-by-rule i h run.rx rx_own run.rx_lists (runs.rx-facts i h run) run.tries
+        run.queues run.queues_seen run.input run.commands run.received;
+    wants = hints.wants-are-written i h run;
+    heads = runs.heads i h run; drops = runs.drops i h run;
+    steered = is-steered; swept = runs.swept i h run;
+    writes = hints.writes-are-right i h run;
+    commands = runs.commands i h run; replies = replies-by-rule;
+  }
 
 pub runs_are_good : RunsAreGood
 runs_are_good i h run = good i h run

@@ -20,7 +20,7 @@ use Rattle.run_goodness.proofs.Names.{History, BoardSizes, BoardStep, BoardLists
 use Rattle.run_goodness.proofs.Names.{receive_steering, Execution, Input, setup_in, app_for}
 use Rattle.run_goodness.proofs.Names.{commands_before, receive_queues, Try, StandOnce, at_in}
 use Rattle.run_goodness.proofs.Names.{BoardFacts, IsWithinPlan}
-use Rattle.run_goodness.proofs.Ends.InboxLemmas.{inboxes_follow}
+use Rattle.run_goodness.proofs.Ends.{inboxes_follow}
 use Rattle.run_coupling.proofs.Lists.PlaceLemmas.{AreNumbered, apart_from, once_from}
 use Rattle.run_coupling.proofs.Runs.QueueLemmas as queues
 use Rattle.run_coupling.proofs.Runs.StandLemmas as stand
@@ -96,59 +96,55 @@ module _ (i : Input) (h : History) (about : BoardSizes) (own : ℕ → List Boar
       ∙ ap length (coupling.queues.turns.all_chosen p ∙ coupling.queues.arrivals p))
 
   pub have-arrived : HaveArrived i.packets h
-  have-arrived =
-      record {
-        numbered = numbered;
-        of_the_capture = (let n = counted in omega arith);
-        taken = λ q. (let n = choice-count q in omega arith);
-        chosen = λ q. (
-          [],
-          append-none (map (λ (c : Chosen). c.id) (list_at h.choices q)) ∙ all-chosen q,
-        );
-        chosen_taken = λ q.
-            (let n = coupling.queues.taken q in
-            let m = ap length (coupling.queues.choices q) in omega arith);
-      }
+  have-arrived = record {
+    numbered = numbered;
+    of_the_capture = (let n = counted in omega arith);
+    taken = λ q. (let n = choice-count q in omega arith);
+    chosen = λ q. (
+      [], append-none (map (λ (c : Chosen). c.id) (list_at h.choices q)) ∙ all-chosen q,
+    );
+    chosen_taken = λ q.
+        (let n = coupling.queues.taken q in
+        let m = ap length (coupling.queues.choices q) in omega arith);
+  }
     where
       append-none : {A : Type 0} (xs : List A) → xs ++ [] ≡ xs
       append-none [] = refl
       append-none (x ∷ xs) = ap (λ r. x ∷ r) (append-none xs)
 
   pub choices-by-rule : ChoicesAreByRule i h (commands_before tries t)
-  choices-by-rule =
-      record {
-        all = λ q.
-            all-chosen q
-            ∙ sym (ap (λ n. take n (arrivals_at h.arrivals q)) (choice-count q)
-            ∙ take_all (length (arrivals_at h.arrivals q)) (arrivals_at h.arrivals q)
-            (omega arith));
-        by_rule =
-            choices_of_closing about own lists facts.visits i h tries t input.hashes coupling.board
-            coupling.tries_are (queues.all_name_queues i tries within) choices;
-      }
+  choices-by-rule = record {
+    all = λ q.
+        all-chosen q
+        ∙ sym (ap (λ n. take n (arrivals_at h.arrivals q)) (choice-count q)
+        ∙ take_all (length (arrivals_at h.arrivals q)) (arrivals_at h.arrivals q)
+        (omega arith));
+    by_rule =
+        choices_of_closing about own lists facts.visits i h tries t input.hashes coupling.board
+        coupling.tries_are (queues.all_name_queues i tries within) choices;
+  }
 
   -- ---- where packets stand
 
   pub are-steered : AreSteered h
-  are-steered =
-      record {
-        accepted = λ c x is.
-            stand.accepted-choice about own lists facts t coupling.queues.turns turns once h.choices
-            coupling.queues.choices c x (ap (λ ls. is_in x (lane_at ls c).accepted)
-            (sym coupling.board.lanes)
-            ∙ is);
-        dropped = λ c x is.
-            stand.dropped-choice about own lists facts t coupling.queues.turns turns once h.choices
-            coupling.queues.choices c x
-            (ap (λ ls. is_in x (drop_ids (lane_at ls c)))
-            (sym coupling.board.lanes) ∙ is);
-        once =
-            apart_from (accepted_lists h.lanes ++ dropped_lists h.lanes)
-            (subst (λ ls. StandOnce (accepted_lists ls ++ dropped_lists ls)) (sym
-            coupling.board.lanes)
-            (stand.all-stand about own lists facts t coupling.queues.turns turns once h.choices
-            coupling.queues.choices));
-      }
+  are-steered = record {
+    accepted = λ c x is.
+        stand.accepted-choice about own lists facts t coupling.queues.turns turns once h.choices
+        coupling.queues.choices c x (ap (λ ls. is_in x (lane_at ls c).accepted)
+        (sym coupling.board.lanes)
+        ∙ is);
+    dropped = λ c x is.
+        stand.dropped-choice about own lists facts t coupling.queues.turns turns once h.choices
+        coupling.queues.choices c x
+        (ap (λ ls. is_in x (drop_ids (lane_at ls c)))
+        (sym coupling.board.lanes) ∙ is);
+    once =
+        apart_from (accepted_lists h.lanes ++ dropped_lists h.lanes)
+        (subst (λ ls. StandOnce (accepted_lists ls ++ dropped_lists ls)) (sym
+        coupling.board.lanes)
+        (stand.all-stand about own lists facts t coupling.queues.turns turns once h.choices
+        coupling.queues.choices));
+  }
 
   inbox-app : (a x : ℕ) → is_in x (list_at lists.outs a) ≡ true
       → app_at i.packets (length i.plan.apps) x ≡ a
@@ -160,43 +156,41 @@ module _ (i : Input) (h : History) (about : BoardSizes) (own : ℕ → List Boar
       (puller about f.lane) f.step a f.lane x (suc n.0) f.does)
 
   pub are-delivered : AreDelivered i.packets (length i.plan.apps) h
-  are-delivered =
-      record {
-        accepted = λ a x is.
-            subst (λ ls. (c : ℕ) × (is_in x (lane_at ls c).accepted ≡ true)) (sym
-            coupling.board.lanes)
-            (stand.out-accepted about own lists facts t coupling.queues.turns turns once h.choices
-            coupling.queues.choices a x (ap (λ ls. is_in x (list_at ls a)) (sym
-            coupling.board.inboxes)
-            ∙ is));
-        own = λ a x is. inbox-app a x
-            (ap (λ ls. is_in x (list_at ls a)) (sym coupling.board.inboxes) ∙ is);
-        once = λ a.
-            once_from (list_at h.inboxes a)
-            (λ j k x at there.
-            (subst StandOnce (sym coupling.board.inboxes)
-            (stand.outs-stand about own lists facts t coupling.queues.turns turns once h.choices
-            coupling.queues.choices) a a j k x at there).1);
-      }
+  are-delivered = record {
+    accepted = λ a x is.
+        subst (λ ls. (c : ℕ) × (is_in x (lane_at ls c).accepted ≡ true)) (sym
+        coupling.board.lanes)
+        (stand.out-accepted about own lists facts t coupling.queues.turns turns once h.choices
+        coupling.queues.choices a x (ap (λ ls. is_in x (list_at ls a)) (sym
+        coupling.board.inboxes)
+        ∙ is));
+    own = λ a x is. inbox-app a x
+        (ap (λ ls. is_in x (list_at ls a)) (sym coupling.board.inboxes) ∙ is);
+    once = λ a.
+        once_from (list_at h.inboxes a)
+        (λ j k x at there.
+        (subst StandOnce (sym coupling.board.inboxes)
+        (stand.outs-stand about own lists facts t coupling.queues.turns turns once h.choices
+        coupling.queues.choices) a a j k x at there).1);
+  }
 
   pub one-place : AreInOnePlace h
-  one-place =
-      record {
-        lanes = are-steered.once;
-        inboxes =
-            apart_from h.inboxes
-            (subst StandOnce (sym coupling.board.inboxes)
-            (stand.outs-stand about own lists facts t coupling.queues.turns turns once h.choices
-            coupling.queues.choices));
-        delivered = λ a x is.
-            subst (λ ls.
-            (c : ℕ) × (is_among (lane_at ls c).delivered x (lane_at ls c).accepted ≡ true))
-            (sym coupling.board.lanes)
-            (stand.out-among about own lists facts t coupling.queues.turns turns once h.choices
-            coupling.queues.choices a x (ap (λ ls. is_in x (list_at ls a)) (sym
-            coupling.board.inboxes)
-            ∙ is));
-      }
+  one-place = record {
+    lanes = are-steered.once;
+    inboxes =
+        apart_from h.inboxes
+        (subst StandOnce (sym coupling.board.inboxes)
+        (stand.outs-stand about own lists facts t coupling.queues.turns turns once h.choices
+        coupling.queues.choices));
+    delivered = λ a x is.
+        subst (λ ls.
+        (c : ℕ) × (is_among (lane_at ls c).delivered x (lane_at ls c).accepted ≡ true))
+        (sym coupling.board.lanes)
+        (stand.out-among about own lists facts t coupling.queues.turns turns once h.choices
+        coupling.queues.choices a x (ap (λ ls. is_in x (list_at ls a)) (sym
+        coupling.board.inboxes)
+        ∙ is));
+  }
 
   pub in-order : IsDeliveredInOrder i h
   in-order =

@@ -28,17 +28,15 @@ use Rattle.run_goodness.proofs.Names.{nth_step, BoardStep, own_in, Has, receive_
 use Rattle.run_goodness.proofs.Names.{setup_in, app_for, flow_number_of, packet_hash}
 use Rattle.run_goodness.proofs.Names.{receive_queues, IsRun, Try, StandOnce, at_in, BoardFacts}
 use Rattle.run_goodness.proofs.Names.{turn-at, IsWithinPlan}
-use Rattle.run_goodness.proofs.Ends.OutLemmas.{all_are_sent}
+use Rattle.run_goodness.proofs.Ends.{all_are_sent, end_to_end}
 use Rattle.run_coupling.proofs.Ends.TotalLemmas.{replies_suffice}
-use Rattle.run_goodness.proofs.Lists.OrderLemmas.{end_to_end}
 use Rattle.run_coupling.proofs.Lists.PlaceLemmas.{arrived_somewhere, in_at}
 use Rattle.run_coupling.proofs.Runs.FactLemmas.{facts_at_closings}
 use Rattle.run_coupling.proofs.Runs.PutTurnLemmas.{put-of}
 use Rattle.run_goodness.proofs.Runs.ReceiveLemmas as receives
 use Rattle.run_coupling.proofs.Runs.StandLemmas as stand
 use Rattle.run_goodness.proofs.Runs.TransmitLemmas as transmits
-use Rattle.run_goodness.proofs.Tries.AnswerLemmas.{commands_follow}
-use Rattle.run_goodness.proofs.Tries.BusyLemmas.{busy_lanes}
+use Rattle.run_goodness.proofs.Tries.AnswerLemmas.{commands_follow, busy_lanes}
 use Rattle.run_goodness.proofs.Turns.HeadLemmas.{heads_of_closing}
 use Rattle.hop_delivery.proofs.Closings.PutPlaceLemmas.{said, turn_of, turns_put_once}
 use Rattle.run_coupling.proofs.Turns.TableLemmas.{drops_follow}
@@ -91,20 +89,16 @@ module _ (i : Input) (h : History) (run : IsRun i h) where
   -- ---- 1: arrivals
 
   pub has-arrived-all : HasArrived i h
-  has-arrived-all =
-      record {
-        all = run.input.arrived;
-        total = run.input.total;
-        cut = run.input.cut;
-        start = run.input.start;
-        queues = run.received.queues.taken_lists;
-        cpus =
-            ap length run.received.board.lanes
-            ∙ (rx-facts.counted.lanes ∙ run.received.board.lane_count);
-        txs =
-            ap length run.sent.board.lanes
-            ∙ (tx-facts.counted.lanes ∙ run.sent.board.lane_count);
-      }
+  has-arrived-all = record {
+    all = run.input.arrived; total = run.input.total; cut = run.input.cut; start = run.input.start;
+    queues = run.received.queues.taken_lists;
+    cpus =
+        ap length run.received.board.lanes
+        ∙ (rx-facts.counted.lanes ∙ run.received.board.lane_count);
+    txs =
+        ap length run.sent.board.lanes
+        ∙ (tx-facts.counted.lanes ∙ run.sent.board.lane_count);
+  }
 
   -- ---- 5: heads
 
@@ -314,17 +308,16 @@ module _ (i : Input) (h : History) (run : IsRun i h) where
           apart e = absurd (cc)
 
   pub swept : IsSwept h
-  swept =
-      record {
-        ended = λ x is.
-            (let w = arrived_somewhere h.arrivals x is in
-            arrival-ends w.0 w.1 x
-            (ap (λ xs. slice_get xs w.1) (run.received.queues.arrivals w.0) ∙ w.2));
-        lanes = subst (All IsDone) (sym run.received.board.lanes) rx-done;
-        tx_lanes = subst (All IsDone) (sym run.sent.board.lanes) tx-done;
-        sent = λ a x is. ap (is_in x) (all-replied a) ∙ is;
-        shipped = inbox-leaves;
-      }
+  swept = record {
+    ended = λ x is.
+        (let w = arrived_somewhere h.arrivals x is in
+        arrival-ends w.0 w.1 x
+        (ap (λ xs. slice_get xs w.1) (run.received.queues.arrivals w.0) ∙ w.2));
+    lanes = subst (All IsDone) (sym run.received.board.lanes) rx-done;
+    tx_lanes = subst (All IsDone) (sym run.sent.board.lanes) tx-done;
+    sent = λ a x is. ap (is_in x) (all-replied a) ∙ is;
+    shipped = inbox-leaves;
+  }
 
   -- ---- 10: commands
 
@@ -332,16 +325,14 @@ module _ (i : Input) (h : History) (run : IsRun i h) where
   commands =
       commands_follow i h run.tries run.rx run.tx rx_own tx_own run.rx_lists run.tx_lists
       (record {
-        start = run.received.board.start;
-        lanes_are = run.received.board.lanes;
+        start = run.received.board.start; lanes_are = run.received.board.lanes;
         own_list = run.received.tries_are.own_list;
         busy =
             busy_lanes run.rx rx_own run.rx_lists rx-facts.fit rx-facts.heads rx-facts.below
             rx-facts.turn;
       })
       (record {
-        start = run.sent.board.start;
-        lanes_are = run.sent.board.lanes;
+        start = run.sent.board.start; lanes_are = run.sent.board.lanes;
         own_list = run.sent.tries_are.own_list;
         busy =
             busy_lanes run.tx tx_own run.tx_lists tx-facts.fit tx-facts.heads tx-facts.below
@@ -363,34 +354,33 @@ module _ (i : Input) (h : History) (run : IsRun i h) where
       (sym (run.input.hashes y small) ∙ (ap (hash_of_flow i) same ∙ run.input.hashes x less))
 
   pub leave : LeaveInOrder i h
-  leave =
-      record {
-        order = λ a x less.
-            transmits.in-order i h run.rx rx_own run.rx_lists rx-facts run.received.board.inboxes
-            inboxes-stand run.tx tx_own run.tx_lists tx-facts run.tries run.applications
-            run.maps_seen
-            within run.sent a x;
-        end_to_end = λ q x less.
-            (let a : ℕ = app_for (setup_in i) x in
-            end_to_end (of_flow i h q x) (of_reply i h a x) (arrivals_at h.arrivals q)
-            (list_at h.inboxes a) (replies_of h a) h.port (map (λ lane. lane.drops) h.lanes)
-            (map (λ lane. lane.drops) h.tx_lanes)
-            (receives.in-order i h run.rx rx_own run.rx_lists rx-facts run.tries run.queues
-            run.queues_seen run.input run.commands run.received q x less)
-            (transmits.front i h run.rx rx_own run.rx_lists rx-facts run.received.board.inboxes
-            inboxes-stand run.tx tx_own run.tx_lists tx-facts run.tries run.applications
-            run.maps_seen
-            within run.sent a)
-            (λ c. none-at h.tx_lanes c (transmits.no-drops i h run.rx rx_own run.rx_lists rx-facts
-            run.received.board.inboxes inboxes-stand run.tx tx_own run.tx_lists tx-facts run.tries
-            run.applications run.maps_seen within run.sent c))
-            (transmits.in-order i h run.rx rx_own run.rx_lists rx-facts run.received.board.inboxes
-            inboxes-stand run.tx tx_own run.tx_lists tx-facts run.tries run.applications
-            run.maps_seen
-            within run.sent a x)
-            (λ y is set. wider-port q x y less is set)
-            (λ y is set. wider-of a q x y is set));
-      }
+  leave = record {
+    order = λ a x less.
+        transmits.in-order i h run.rx rx_own run.rx_lists rx-facts run.received.board.inboxes
+        inboxes-stand run.tx tx_own run.tx_lists tx-facts run.tries run.applications
+        run.maps_seen
+        within run.sent a x;
+    end_to_end = λ q x less.
+        (let a : ℕ = app_for (setup_in i) x in
+        end_to_end (of_flow i h q x) (of_reply i h a x) (arrivals_at h.arrivals q)
+        (list_at h.inboxes a) (replies_of h a) h.port (map (λ lane. lane.drops) h.lanes)
+        (map (λ lane. lane.drops) h.tx_lanes)
+        (receives.in-order i h run.rx rx_own run.rx_lists rx-facts run.tries run.queues
+        run.queues_seen run.input run.commands run.received q x less)
+        (transmits.front i h run.rx rx_own run.rx_lists rx-facts run.received.board.inboxes
+        inboxes-stand run.tx tx_own run.tx_lists tx-facts run.tries run.applications
+        run.maps_seen
+        within run.sent a)
+        (λ c. none-at h.tx_lanes c (transmits.no-drops i h run.rx rx_own run.rx_lists rx-facts
+        run.received.board.inboxes inboxes-stand run.tx tx_own run.tx_lists tx-facts run.tries
+        run.applications run.maps_seen within run.sent c))
+        (transmits.in-order i h run.rx rx_own run.rx_lists rx-facts run.received.board.inboxes
+        inboxes-stand run.tx tx_own run.tx_lists tx-facts run.tries run.applications
+        run.maps_seen
+        within run.sent a x)
+        (λ y is set. wider-port q x y less is set)
+        (λ y is set. wider-of a q x y is set));
+  }
     where
       none-at : (lanes : List LaneList) (c : ℕ) → (lane_at lanes c).drops ≡ []
           → get_or (map (λ (l : LaneList). l.drops) lanes) c [] ≡ []

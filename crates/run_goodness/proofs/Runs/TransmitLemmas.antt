@@ -18,9 +18,8 @@ use Rattle.hop_rule.specs.declared.step.GateStep.TheVariants.{Entered, Turned, L
 use Rattle.hop_rule.specs.declared.step.GateStep.TheVariants.{Read}
 use Rattle.hop_delivery.specs.Orders.DeliveryLaw.{came_by}
 use Rattle.hop_delivery.specs.Orders.Premises.{AllFindEmpty, FindsEmpty, GoesRight, MeetsPremises}
-use Rattle.hop_rule.specs.declared.step.LaneStep.TheVariants.{Freed, Given, Held, Missed}
-use Rattle.hop_rule.specs.declared.step.LaneStep.TheVariants.{OutFreed, OutHeld, OutMissed}
-use Rattle.hop_rule.specs.declared.step.LaneStep.TheVariants.{Retired}
+use Rattle.hop_rule.specs.declared.step.LaneStep.TheVariants.{Freed, Given, Held, Missed, OutFreed}
+use Rattle.hop_rule.specs.declared.step.LaneStep.TheVariants.{OutHeld, OutMissed, Retired}
 use Rattle.run_coupling.proofs.Ends.TotalLemmas.{all-by-number}
 use Rattle.hop_delivery.specs.Orders.TransmitSettings.{transmit_steering}
 use Rattle.hop_delivery.proofs.Orders.TransmitSettingLemmas.{transmit_steers}
@@ -37,7 +36,7 @@ use Rattle.run_goodness.proofs.Names.{none-some, some-is, BoardLists, accepted_l
 use Rattle.run_goodness.proofs.Names.{Execution, Input, setup_in, flow_number_of, RepliesAreBy}
 use Rattle.run_goodness.proofs.Names.{commands_before_reply, Try, StandOnce, at_in, BoardFacts}
 use Rattle.run_goodness.proofs.Names.{turn-at, IsWithinPlan}
-use Rattle.run_goodness.proofs.Ends.InboxLemmas.{any-is}
+use Rattle.run_goodness.proofs.Ends.{any-is}
 use Rattle.run_coupling.proofs.Lists.PlaceLemmas.{apart_from, once_from}
 use Rattle.run_coupling.proofs.Runs.ApplicationLemmas as apps
 use Rattle.run_coupling.proofs.Runs.StandLemmas as stand
@@ -82,8 +81,7 @@ no-change-asks about flow before (LaneIn k) = tt
 no-changes-ask : (about : BoardSizes) (flow : ℕ → ℕ) (ds : List BoardStep)
     → AllFindEmpty about (transmit_steering flow) ds
 no-changes-ask about flow [] = tt
-no-changes-ask about flow (d ∷ ds) =
-    (no-change-asks about flow ds d, no-changes-ask about flow ds)
+no-changes-ask about flow (d ∷ ds) = (no-change-asks about flow ds d, no-changes-ask about flow ds)
 
 module _ (i : Input) (h : History) (rx : BoardSizes) (rx_own : ℕ → List BoardStep)
     (rx_lists : BoardLists) (rx_facts : BoardFacts rx rx_own rx_lists)
@@ -99,15 +97,13 @@ module _ (i : Input) (h : History) (rx : BoardSizes) (rx_own : ℕ → List Boar
   pub turns : Rattle.hop_delivery.specs.Closings.PutPlaces.AreTurnsOf own t
   turns =
       apps.are-turns i h rx rx_own rx_lists rx_facts inboxes inboxes_stand about own lists facts
-      tries
-      t seen within coupling
+      tries t seen within coupling
 
   pub once : (p q j k x : ℕ) → slice_get (t.arrivals p) j ≡ Some x
       → slice_get (t.arrivals q) k ≡ Some x → (p ≡ q) × (j ≡ k)
   once =
       apps.reply-once i h rx rx_own rx_lists rx_facts inboxes inboxes_stand about own lists facts
-      tries
-      t seen within coupling
+      tries t seen within coupling
 
   pub front : (a : ℕ) → IsPrefix (replies_of h a) (list_at h.inboxes a)
   front =
@@ -142,22 +138,18 @@ module _ (i : Input) (h : History) (rx : BoardSizes) (rx_own : ℕ → List Boar
   goes-right q k (LaneIn n) does = tt
 
   pub premises : MeetsPremises about own (accepted_left lists) t r
-  premises =
-      record {
-        once = turns.once;
-        explained = turns.explained;
-        by_seat = turns.by_seat;
-        arrived = turns.arrived;
-        chosen = turn-chosen own t coupling.applications.turns;
-        given = λ q. all-by-number (GoesRight r) (own q) (goes-right q);
-        by_rule = replies.by_rule;
-        emptied = no-changes-ask about (flow_number_of (setup_in i)) (own (closer about));
-      }
+  premises = record {
+    once = turns.once; explained = turns.explained;
+    by_seat = turns.by_seat; arrived = turns.arrived;
+    chosen = turn-chosen own t coupling.applications.turns;
+    given = λ q. all-by-number (GoesRight r) (own q) (goes-right q);
+    by_rule = replies.by_rule;
+    emptied = no-changes-ask about (flow_number_of (setup_in i)) (own (closer about));
+  }
 
   -- ---- the choices
 
-  pub all-chosen : (a : ℕ)
-      → map (λ (c : Chosen). c.id) (list_at h.tx_choices a) ≡ replies_of h a
+  pub all-chosen : (a : ℕ) → map (λ (c : Chosen). c.id) (list_at h.tx_choices a) ≡ replies_of h a
   all-chosen a =
       ap (map (λ (c : Chosen). c.id)) (coupling.applications.choices a)
       ∙ (coupling.applications.turns.all_chosen a ∙ coupling.applications.replies a)
@@ -218,8 +210,7 @@ module _ (i : Input) (h : History) (rx : BoardSizes) (rx_own : ℕ → List Boar
       (sym (no-cause s.found.limited s.found.limit (length s.found.accepted - s.found.pulled)
       (option_map (bucket_count s.found.offers) (bucket_of w.hash)) less
       (s.lane.limited ∙ (ap (λ (m : CpuMask). has m l) coupling.board.limited
-      ∙ nobody-limited l)))
-      ∙ (ap (λ (x : LaneLists). lane_drop_cause x w.hash) same ∙ w.cause))
+      ∙ nobody-limited l))) ∙ (ap (λ (x : LaneLists). lane_drop_cause x w.hash) same ∙ w.cause))
     where
       nobody-limited : (l : ℕ) → has (record { 0 = 0 }) l ≡ false
       nobody-limited l =
@@ -262,37 +253,33 @@ module _ (i : Input) (h : History) (rx : BoardSizes) (rx_own : ℕ → List Boar
       (ap (λ xs. slice_get xs k) (sym coupling.board.port) ∙ there)).1)
 
   pub are-shipped : AreShipped h
-  are-shipped =
-      record {
-        accepted = λ l x is.
-            stand.accepted-choice about own lists facts t coupling.applications.turns turns once
-            h.tx_choices coupling.applications.choices l x
-            (ap (λ ls. is_in x (lane_at ls l).accepted) (sym coupling.board.lanes) ∙ is);
-        once = lanes-apart;
-        no_drops = no-drops;
-        port = λ x is.
-            subst (λ ls. (l : ℕ) × (is_in x (lane_at ls l).accepted ≡ true)) (sym
-            coupling.board.lanes)
-            (stand.out-accepted about own lists facts t coupling.applications.turns turns once
-            h.tx_choices coupling.applications.choices 0 x
-            (ap (is_in x) (sym coupling.board.port) ∙ is));
-        port_once = port-once;
-      }
+  are-shipped = record {
+    accepted = λ l x is.
+        stand.accepted-choice about own lists facts t coupling.applications.turns turns once
+        h.tx_choices coupling.applications.choices l x
+        (ap (λ ls. is_in x (lane_at ls l).accepted) (sym coupling.board.lanes) ∙ is);
+    once = lanes-apart; no_drops = no-drops;
+    port = λ x is.
+        subst (λ ls. (l : ℕ) × (is_in x (lane_at ls l).accepted ≡ true)) (sym
+        coupling.board.lanes)
+        (stand.out-accepted about own lists facts t coupling.applications.turns turns once
+        h.tx_choices coupling.applications.choices 0 x
+        (ap (is_in x) (sym coupling.board.port) ∙ is));
+    port_once = port-once;
+  }
 
   pub one-place : AreInOneTxPlace h
-  one-place =
-      record {
-        lanes = lanes-apart;
-        once = port-once;
-        delivered = λ x is.
-            subst (λ ls.
-            (l : ℕ) × (is_among (lane_at ls l).delivered x (lane_at ls l).accepted ≡ true))
-            (sym coupling.board.lanes)
-            (stand.out-among about own lists facts t coupling.applications.turns turns once
-            h.tx_choices
-            coupling.applications.choices 0 x (ap (is_in x) (sym coupling.board.port) ∙ is));
-        no_drops = no-drops;
-      }
+  one-place = record {
+    lanes = lanes-apart; once = port-once;
+    delivered = λ x is.
+        subst (λ ls.
+        (l : ℕ) × (is_among (lane_at ls l).delivered x (lane_at ls l).accepted ≡ true))
+        (sym coupling.board.lanes)
+        (stand.out-among about own lists facts t coupling.applications.turns turns once
+        h.tx_choices
+        coupling.applications.choices 0 x (ap (is_in x) (sym coupling.board.port) ∙ is));
+    no_drops = no-drops;
+  }
 
   -- a packet on the port was replied to
   pub port-replied : (x : ℕ) → is_in x h.port ≡ true

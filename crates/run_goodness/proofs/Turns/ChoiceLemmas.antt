@@ -1,5 +1,18 @@
--- A choice by the rule of its visit is by the rule of a good history, with the settings after the
--- commands up to the visit's opening.
+-- A choice by the rule of its visit, with the head that it keeps, is by the rule of a good history,
+-- with the settings after the commands up to the visit's opening.
+use Rattle.run_goodness.proofs.Names.{◌≡◌, ℕ, Bool, true, false, Option, Some, None, ◌==◌, not}
+use Rattle.run_goodness.proofs.Names.{if◌then◌else◌, sym, refl, ap, unwrap_or, by_entry, migrate}
+use Rattle.run_goodness.proofs.Names.{has_reached, Choice, Entry, Why, Offline, Same, Passed, Kept}
+use Rattle.run_goodness.proofs.Names.{inl, inr, zero, suc, ◌+◌, ◌/◌, ◌%◌, ◌^◌, ◌<◌, ◌≤◌, List, []}
+use Rattle.run_goodness.proofs.Names.{◌∷◌, ◌++◌, length, take, drop, All, ◌∙◌, subst, arith}
+use Rattle.run_goodness.proofs.Names.{slice_get, list_any, lt-ltb, entry, has, Chosen, Command}
+use Rattle.run_goodness.proofs.Names.{since_resize, list_at, History, chosen_at, nobody, gate_steps}
+use Rattle.run_goodness.proofs.Names.{nth_step, closer, BoardSizes, BoardStep, nth-some}
+use Rattle.run_goodness.proofs.Names.{VisitNumbersRise, BoardLists, SettingChange, receive_steering}
+use Rattle.run_goodness.proofs.Names.{Steering, Execution, turns_of, word_of, Turn, accepted_left}
+use Rattle.run_goodness.proofs.Names.{Input, settings_at, setup_in, Settings, flow_number_of}
+use Rattle.run_goodness.proofs.Names.{packet_hash, initial_settings, commands_before}
+use Rattle.run_goodness.proofs.Names.{receive_queues, Try, at_receive, settings_by, tries_up_to}
 use Rattle.std.proofs.Common.{◌*◌}
 use Rattle.std.specs.Prelude.{nat_lt, slice_index, slice_index_or}
 use Rattle.std.proofs.lemmas.Bool.{cases_lt}
@@ -14,30 +27,56 @@ use Rattle.steer_model.specs.Good.Choices as good
 use Rattle.steer_model.specs.Good.Inputs.{is_resize, since_at}
 use Rattle.steer_model.specs.State.Settings.{class_at, plain_lane}
 use Rattle.steer_model.specs.State.Setup.{Setup}
-use Rattle.run_goodness.proofs.Names.{◌≡◌, inl, inr, ℕ, zero, suc, ◌+◌, ◌/◌, ◌%◌, ◌^◌, ◌<◌, ◌≤◌}
-use Rattle.run_goodness.proofs.Names.{◌==◌, not, true, List, [], ◌∷◌, ◌++◌, Option, Some, None}
-use Rattle.run_goodness.proofs.Names.{length, take, drop, All, if◌then◌else◌, sym, ap, ◌∙◌, subst}
-use Rattle.run_goodness.proofs.Names.{arith, slice_get, unwrap_or, list_any, lt-ltb, migrate, entry}
-use Rattle.run_goodness.proofs.Names.{has, Chosen, Command, since_resize, list_at, History}
-use Rattle.run_goodness.proofs.Names.{chosen_at, nobody, gate_steps, nth_step, closer, BoardSizes}
-use Rattle.run_goodness.proofs.Names.{BoardStep, nth-some, VisitNumbersRise, BoardLists}
-use Rattle.run_goodness.proofs.Names.{SettingChange, receive_steering, Steering, Execution}
-use Rattle.run_goodness.proofs.Names.{turns_of, word_of, Turn, accepted_left, Input, settings_at}
-use Rattle.run_goodness.proofs.Names.{setup_in, Settings, flow_number_of, packet_hash}
-use Rattle.run_goodness.proofs.Names.{initial_settings, commands_before, receive_queues, Try}
-use Rattle.run_goodness.proofs.Names.{at_receive, settings_by, tries_up_to}
 use Rattle.run_goodness.proofs.Turns.NumberLemmas as numbers
-use Rattle.run_goodness.proofs.Turns.OwnHeadLemmas.{migrate_own}
 use Rattle.run_coupling.proofs.Tries.ResizeLemmas.{flow_word, resized_between, since_same}
+use Rattle.run_coupling.proofs.Tries.ResizeLemmas.{resizes_by}
 use Rattle.run_coupling.proofs.Tries.TryLemmas.{drop-given, given_by}
 use Rattle.run_coupling.specs.Laws.Choices.{ChoicesFollow, ChoicesHaveTurns}
 use Rattle.run_coupling.specs.Coupling.Boards.{IsReceiveBoard}
 use Rattle.run_coupling.specs.Coupling.Inputs.{AreReceiveWords, FlowsHaveOneHash}
 use Rattle.run_coupling.specs.Coupling.Inputs.{NamesReceiveQueues, hash_of_flow}
 use Rattle.run_coupling.specs.Coupling.Tries.{KeepsReceiveTries}
-use Rattle.run_coupling.proofs.Tries.ResizeLemmas.{resizes_by}
 use Rattle.run_coupling.proofs.Tries.OpeningLemmas.{settings_of_opening, words_of_opening}
 use Rattle.run_coupling.proofs.Tries.OpeningLemmas as opening_lemmas
+
+module _ (class : ℕ) (want : Option ℕ) (desired tail current : ℕ) where
+  abbrev choice : Option ℕ → ℕ → Why → Choice
+  choice head lane why = record {
+    class = Some class; want = want; head = head; tail = Some tail; lane = lane; why = why;
+  }
+
+  abbrev by_bools : Bool → Bool → Bool → ℕ → Choice
+  by_bools same off reached head =
+      if same then choice None current Same else if off then choice None desired Offline else if
+      reached then choice (Some head) desired Passed else choice (Some head) current Kept
+
+  own_head : (same off : Bool) (f : ℕ → Bool) (head : ℕ) → by_bools same off (f head) head
+      ≡ (let own : ℕ = unwrap_or (by_bools same off (f head) head).head 0 in
+      by_bools same off (f own) own)
+  own_head true off f head = refl
+  own_head false true f head = refl
+  own_head false false f head = ap (λ h. by_bools false false (f h) h) (sym (is (f head)))
+    where
+      is : (b : Bool) → unwrap_or (by_bools false false b head).head 0 ≡ head
+      is true = refl
+      is false = refl
+
+pub by_entry_own : (class : ℕ) (want : Option ℕ) (desired tail head : ℕ) (online : ℕ → Bool)
+    (lane : Option ℕ)
+    → (let c : Choice = by_entry class want desired tail (λ _. head) online lane in
+    c ≡ by_entry class want desired tail (λ _. unwrap_or c.head 0) online lane)
+by_entry_own class want desired tail head online None = refl
+by_entry_own class want desired tail head online (Some current) =
+    own_head class want desired tail current (current == desired) (not (online current))
+    (λ h. has_reached h tail 0) head
+
+pub migrate_own : (class want : Option ℕ) (desired : ℕ) (entries : ℕ → Entry) (head : ℕ)
+    (online : ℕ → Bool)
+    → (let c : Choice = migrate class want desired entries (λ _. head) online in
+    c ≡ migrate class want desired entries (λ _. unwrap_or c.head 0) online)
+migrate_own None want desired entries head online = refl
+migrate_own (Some class) want desired entries head online =
+    by_entry_own class want desired (entries class).tail head online (entries class).lane
 
 pub get-or : {A : Type 0} (xs : List A) (k : ℕ) (d x : A) → slice_get xs k ≡ Some x
     → slice_index_or xs k d ≡ x
@@ -87,8 +126,7 @@ module _ (i : Input) (p : ℕ) (z : ℕ → ℕ) (s : Settings) (g : ℕ → ℕ
           ∙ (λ k. rps_choice_of (mask (words.mask p within k)) (same k) (online-is k)
           (slice_index qs.homes p))
 
-      goal-is : (class want : Option ℕ)
-          → goal_of rs z p (rs.flow x) class want
+      goal-is : (class want : Option ℕ) → goal_of rs z p (rs.flow x) class want
           ≡ desired_cpu class want s.online (plain_lane su s p x)
       goal-is None want = plain-is
       goal-is (Some class) None = plain-is
@@ -159,8 +197,7 @@ module _ (i : Input) (h : History) (about : BoardSizes) (own : ℕ → List Boar
         shape-is i p (shown (number p k)) (after (number p k))
         (λ c. resizes_by c (upto (number p k))) within (words-at (number p k))
 
-    between : (k : ℕ) → k + 1 < length (turns_of t p)
-        → list_any (is_resize p)
+    between : (k : ℕ) → k + 1 < length (turns_of t p) → list_any (is_resize p)
         (drop (length (upto (number p k))) (take (length (upto (number p (suc k)))) h.commands))
         ≡ not (shape p k == shape p (suc k))
     between k less =
@@ -170,8 +207,7 @@ module _ (i : Input) (h : History) (about : BoardSizes) (own : ℕ → List Boar
         let old = (words-at (number p k)).small p within in
         ap (λ cs. list_any (is_resize p) (drop (length a) cs))
         (take-upto (number p (suc k)) ∙ ap given_by g.1)
-        ∙ (ap (list_any (is_resize p)) (drop-given g.0 a)
-        ∙ (resized_between first p g.0 a
+        ∙ (ap (list_any (is_resize p)) (drop-given g.0 a) ∙ (resized_between first p g.0 a
         (subst (λ ts. slice_index (settings_by first ts).counts p < 2 ^ 32) g.1 small) old
         ∙ (λ j. not (sym (shape-at k) j
         == sym (shape-at (suc k) ∙ ap (flow_word first p) g.1) j))))
@@ -181,8 +217,7 @@ module _ (i : Input) (h : History) (about : BoardSizes) (own : ℕ → List Boar
 
     since-is : (k : ℕ) → k < length (turns_of t p)
         → since_resize (shape p) k ≡ since_at h.commands p at k
-    since-is k less =
-        since_same (shape p) h.commands p at k (λ j l. between j (omega arith))
+    since-is k less = since_same (shape p) h.commands p at k (λ j l. between j (omega arith))
 
     -- what a good history says of a choice
     abbrev Says : ℕ → List Chosen → Chosen → Settings → ℕ → Type 0
@@ -251,16 +286,15 @@ module _ (i : Input) (h : History) (about : BoardSizes) (own : ℕ → List Boar
       ]
 
   pub choices_follow : AreByRule i h (commands_before tries t)
-  choices_follow =
-      record {
-        prefixes = λ p.
-            (let size = ap length (keeps.journals p) in
-            let many = keeps.counted p in
-            numbers.prefixes about own lists law sets at_receive tries kept.own_list kept.are t
-            keeps.explained p (length h.commands) (list_at h.choices p) (omega arith)
-            length-upto);
-        each = by_rule;
-      }
+  choices_follow = record {
+    prefixes = λ p.
+        (let size = ap length (keeps.journals p) in
+        let many = keeps.counted p in
+        numbers.prefixes about own lists law sets at_receive tries kept.own_list kept.are t
+        keeps.explained p (length h.commands) (list_at h.choices p) (omega arith)
+        length-upto);
+    each = by_rule;
+  }
 
 pub choices_of_closing : (about : BoardSizes) (own : ℕ → List BoardStep) (lists : BoardLists)
     → VisitNumbersRise about own lists → ChoicesFollow about own lists

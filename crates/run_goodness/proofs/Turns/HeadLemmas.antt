@@ -20,21 +20,16 @@ use Rattle.run_goodness.proofs.Names.{Passed, Same, lane_at, chosen_at, nobody, 
 use Rattle.run_goodness.proofs.Names.{BoardSizes, BoardStep, Weighed, none-some, some-is}
 use Rattle.run_goodness.proofs.Names.{nth-inside, nth-last, nth-old, nth-some, Has, BoardLists}
 use Rattle.run_goodness.proofs.Names.{Steering, Execution, turns_of, Explained, Turn, accepted_left}
-use Rattle.run_goodness.proofs.Tries.BusyLemmas.{shown}
+use Rattle.run_goodness.proofs.Tries.AnswerLemmas.{shown}
 use Rattle.run_coupling.proofs.Turns.TableEntryLemmas.{nth-moment}
 use Rattle.run_goodness.proofs.Turns.ChoiceLemmas.{get-or}
-use Rattle.run_goodness.specs.Laws.Heads.{HeadsFollow}
+use Rattle.run_goodness.specs.Laws.{HeadsFollow}
 
 -- ---- a choice that keeps a head
 
 abbrev a_choice : ℕ → Option ℕ → ℕ → Option ℕ → ℕ → Why → Choice
 a_choice class want tail head lane why = record {
-  class = Some class;
-  want = want;
-  head = head;
-  tail = Some tail;
-  lane = lane;
-  why = why;
+  class = Some class; want = want; head = head; tail = Some tail; lane = lane; why = why;
 }
 
 record KeepsHead (class : Option ℕ) (entries : ℕ → Entry) (head h : ℕ) (c : Choice) : Type 0 where
@@ -50,16 +45,14 @@ kept-head : (class want : Option ℕ) (desired : ℕ) (entries : ℕ → Entry) 
     → (migrate class want desired entries (λ _. head) online).head ≡ Some h
     → KeepsHead class entries head h (migrate class want desired entries (λ _. head) online)
 kept-head None want desired entries head online h is = none-some h is
-kept-head (Some c) want desired entries head online h is =
-    by_lane (entries c).lane refl is
+kept-head (Some c) want desired entries head online h is = by_lane (entries c).lane refl is
   where
     by_bools : (l tail : ℕ) (same off reached : Bool)
         → (if same then a_choice c want tail None l Same else
         if off then a_choice c want tail None desired Offline else
         if reached then a_choice c want tail (Some head) desired Passed
         else a_choice c want tail (Some head) l Kept).head ≡ Some h
-        → (head ≡ h)
-        × ((if same then a_choice c want tail None l Same else
+        → (head ≡ h) × ((if same then a_choice c want tail None l Same else
         if off then a_choice c want tail None desired Offline else
         if reached then a_choice c want tail (Some head) desired Passed
         else a_choice c want tail (Some head) l Kept).class ≡ Some c)
@@ -77,11 +70,7 @@ kept-head (Some c) want desired entries head online h is =
         let b = by_bools l (entries c).tail (l == desired) (not (online l))
         (has_reached head (entries c).tail 0) is in
         record {
-          of_class = c;
-          lane = l;
-          is_class = refl;
-          is_lane = same;
-          is_head = b.0;
+          of_class = c; lane = l; is_class = refl; is_lane = same; is_head = b.0;
           same_class =
               ap (λ (o : Option ℕ).
               (by_entry c want desired (entries c).tail (λ _. head) online o).class) same ∙ b.1;
@@ -102,8 +91,7 @@ last-append d (x ∷ xs) ys = last-append x xs ys
 class-append : (c : ℕ) (xs ys : List Chosen) → of_class c (xs ++ ys)
     ≡ of_class c xs ++ of_class c ys
 class-append c [] ys = refl
-class-append c (x ∷ xs) ys =
-    by_bool (is_class c x.choice.class) (class-append c xs ys)
+class-append c (x ∷ xs) ys = by_bool (is_class c x.choice.class) (class-append c xs ys)
   where
     by_bool : (b : Bool) → of_class c (xs ++ ys) ≡ of_class c xs ++ of_class c ys
         → (if b then x ∷ of_class c (xs ++ ys) else of_class c (xs ++ ys))
@@ -120,8 +108,7 @@ current-later c n l xs is =
     let parts : of_class c xs ≡ a ++ b =
     ap (of_class c) (sym (take-append-drop n xs)) ∙ class-append c (take n xs) (drop n xs) in
     ap current_lane parts
-    ∙ (ap (last_or None) (map-append f a b)
-    ∙ (last-append None (map f a) (map f b)
+    ∙ (ap (last_or None) (map-append f a b) ∙ (last-append None (map f a) (map f b)
     ∙ last-any (last_or None (map f a)) None (map f b) l is))
 
 -- ---- loads of turns
@@ -194,12 +181,9 @@ module _ (about : BoardSizes) (own : ℕ → List BoardStep) (lists : BoardLists
       let e = (places.visits (at k) (step_by p u.0) turn_is).early j.0 (Weighed kept.lane w.0)
       (j.1 ∙ ap (λ d. Some d) has.2) in
       record {
-        word = w.0;
-        step = e.0;
+        word = w.0; step = e.0;
         does = e.3 ∙ ap (λ l. Some (Weighed l w.0)) same;
-        shows = w.2 ∙ kept.is_head;
-        after = e.1;
-        before = e.2;
+        shows = w.2 ∙ kept.is_head; after = e.1; before = e.2;
       }
 
   pub counted : (k head lane : ℕ) (x : Load k head lane)
@@ -216,37 +200,35 @@ module _ (about : BoardSizes) (own : ℕ → List BoardStep) (lists : BoardLists
       let big = fit.room in (
         ap (λ n. distance n about.start) (sym x.shows)
             ∙ shown about.start x.word fit.start a (omega arith),
-        b,
-        a,
+        b, a,
       )
 
   pub heads_follow : HeadsRise about.start lists.lanes cs
-  heads_follow =
-      record {
-        within = λ k head lane less is seen.
-            let x = load k head lane less is seen in
-            let c = counted k head lane x in
-            let d = c.0 in
-            let e = c.1 in
-            let f = c.2 in
-            omega arith;
-        rise = λ j k before head lane less within is_j seen_j is_k seen_k.
-            let x = load j before lane (omega arith) is_j seen_j in
-            let y = load k head lane within is_k seen_k in
-            let c = counted j before lane x in
-            let d = counted k head lane y in
-            let u = nth-some (turns_of t p) k (omega arith) in
-            let rises = moments_rise p (t.turns q) j k less (omega arith) in
-            let order = places.in_order (at j) (at k) rises (inside k u.0 u.1) in
-            let x0 = x.before in
-            let y0 = y.after in
-            let words = law.rise q x.step y.step lane x.word y.word (omega arith) x.does y.does in
-            let c0 = c.0 in
-            let d0 = d.0 in
-            let c1 = c.2 in
-            let d1 = d.2 in
-            omega arith;
-      }
+  heads_follow = record {
+    within = λ k head lane less is seen.
+        let x = load k head lane less is seen in
+        let c = counted k head lane x in
+        let d = c.0 in
+        let e = c.1 in
+        let f = c.2 in
+        omega arith;
+    rise = λ j k before head lane less within is_j seen_j is_k seen_k.
+        let x = load j before lane (omega arith) is_j seen_j in
+        let y = load k head lane within is_k seen_k in
+        let c = counted j before lane x in
+        let d = counted k head lane y in
+        let u = nth-some (turns_of t p) k (omega arith) in
+        let rises = moments_rise p (t.turns q) j k less (omega arith) in
+        let order = places.in_order (at j) (at k) rises (inside k u.0 u.1) in
+        let x0 = x.before in
+        let y0 = y.after in
+        let words = law.rise q x.step y.step lane x.word y.word (omega arith) x.does y.does in
+        let c0 = c.0 in
+        let d0 = d.0 in
+        let c1 = c.2 in
+        let d1 = d.2 in
+        omega arith;
+  }
 
 pub heads_of_closing : (about : BoardSizes) (own : ℕ → List BoardStep) (lists : BoardLists)
     → FitSizes about → seam.HeadsRise about own lists → LanesAreInTurn about own lists

@@ -23,8 +23,7 @@ use Rattle.run_goodness.proofs.Names.{flow_number_of, packet_hash, initial_setti
 use Rattle.run_goodness.proofs.Names.{commands_before_reply, Try, at_transmit, settings_by}
 use Rattle.run_goodness.proofs.Names.{tries_up_to}
 use Rattle.run_goodness.proofs.Turns.NumberLemmas as numbers
-use Rattle.run_goodness.proofs.Turns.OwnHeadLemmas.{migrate_own}
-use Rattle.run_goodness.proofs.Turns.ChoiceLemmas.{get-or}
+use Rattle.run_goodness.proofs.Turns.ChoiceLemmas.{migrate_own, get-or}
 use Rattle.run_coupling.specs.Laws.Replies.{RepliesFollow, RepliesHaveTurns}
 use Rattle.run_coupling.specs.Coupling.Boards.{IsTransmitBoard}
 use Rattle.run_coupling.specs.Coupling.Inputs.{AreTransmitWords, NamesTransmitQueues}
@@ -39,12 +38,7 @@ everyone-has c lt = let bit = bit_at_ones 32 c lt in rw (lt-ltb c 32 lt, bit) re
 
 abbrev a_choice : ℕ → Option ℕ → ℕ → Option ℕ → ℕ → Why → Choice
 a_choice class want tail head lane why = record {
-  class = Some class;
-  want = want;
-  head = head;
-  tail = Some tail;
-  lane = lane;
-  why = why;
+  class = Some class; want = want; head = head; tail = Some tail; lane = lane; why = why;
 }
 
 by_entry-online : (class : ℕ) (want : Option ℕ) (desired tail : ℕ) (head : ℕ → ℕ)
@@ -135,8 +129,7 @@ module _ (i : Input) (h : History) (about : BoardSizes) (own : ℕ → List Boar
       (entry h.start (accepted_in h.tx_lanes) (take k cs))
       (λ lane. unwrap_or x.choice.head 0) (has everyone)
 
-  says : (a k : ℕ) (u : Turn) → nth_step (turns_of t a) k ≡ Some u → (r : Sent)
-      → u.chosen.id ≡ r.id
+  says : (a k : ℕ) (u : Turn) → nth_step (turns_of t a) k ≡ Some u → (r : Sent) → u.chosen.id ≡ r.id
       → u.chosen.choice.want
       ≡ Some (pick_by count (shown (u.word / 2 ^ 32)) r.rxq r.cpu (packet_hash (setup_in i) r.id))
       → Says k (t.choices a) u.chosen (settings_by begin (upto (u.word / 2 ^ 32))) r
@@ -187,9 +180,7 @@ module _ (i : Input) (h : History) (about : BoardSizes) (own : ℕ → List Boar
       sym x ∙ ap (λ cs. chosen_at cs k) (sym same) in
       let r = keeps.replies a k u.0 u.1 in
       let n : number a k ≡ u.0.word / 2 ^ 32 = ap (λ o. word_of o / 2 ^ 32) u.1 in (
-        r.0,
-        r.1,
-        sym (ap (λ (c : Chosen). c.id) chosen) ∙ r.2,
+        r.0, r.1, sym (ap (λ (c : Chosen). c.id) chosen) ∙ r.2,
         subst (λ (y : List Chosen × (Chosen × Settings)). Says k y.0 y.1.0 y.1.1 r.0)
             (λ j. (
               sym same j,
@@ -202,16 +193,15 @@ module _ (i : Input) (h : History) (about : BoardSizes) (own : ℕ → List Boar
       )
 
   replies_follow : RepliesAreBy i h (commands_before_reply tries t)
-  replies_follow =
-      record {
-        prefixes = λ a.
-            (let size = ap length (keeps.journals a) in
-            let many = keeps.counted a in
-            numbers.prefixes about own lists law ss at_transmit tries kept.own_list kept.are t
-            keeps.explained a (length h.commands) (list_at h.tx_choices a) (omega arith)
-            length-upto);
-        each = by_rule;
-      }
+  replies_follow = record {
+    prefixes = λ a.
+        (let size = ap length (keeps.journals a) in
+        let many = keeps.counted a in
+        numbers.prefixes about own lists law ss at_transmit tries kept.own_list kept.are t
+        keeps.explained a (length h.commands) (list_at h.tx_choices a) (omega arith)
+        length-upto);
+    each = by_rule;
+  }
 
 pub replies_of_closing : (about : BoardSizes) (own : ℕ → List BoardStep) (lists : BoardLists)
     → VisitNumbersRise about own lists → RepliesFollow about own lists

@@ -1,14 +1,13 @@
-use Rattle.board_api.proofs.OutSums.{lists_are_counted}
+use Rattle.board_api.proofs.OutSums.{lists_are_counted, outs_are_sums}
 use Rattle.board_api.proofs.OwnDrops.{counts_are_sums}
-use Rattle.board_api.proofs.OutSums.{outs_are_sums}
 use Rattle.board_api.proofs.OwnLanes.{deliveries_have_places, lanes_are_served_by_one}
 use Rattle.board_api.proofs.OwnPuts.{puts_stand}
 use Rattle.run_coupling.specs.Laws.Ends.{AllAreSent, LanesAreDone, PutsEnd, TotalsSuffice}
-use Rattle.run_coupling.proofs.Ends.EndLemmas.{lanes_done, puts_end, totals_suffice}
 use Rattle.run_coupling.specs.Laws.Ends.{RepliesSuffice}
+use Rattle.run_coupling.proofs.Ends.EndLemmas.{lanes_done, puts_end, totals_suffice}
 use Rattle.run_coupling.proofs.Ends.ChoiceCountLemmas.{choices_suffice}
 use Rattle.run_goodness.proofs.Names.{own_of, lists_of, at_closings, lanes_are_in_turn}
-use Rattle.run_goodness.proofs.Ends.OutLemmas.{all_are_sent, replies_keep_choices}
+use Rattle.run_goodness.proofs.Ends.{all_are_sent, replies_keep_choices}
 use Rattle.run_coupling.proofs.Ends.TotalLemmas.{replies_suffice}
 use Rattle.run_coupling.proofs.Runs.FactLemmas.{gives_within}
 use Rattle.run_goodness.proofs.laws.equal_counts_end_a_run.Goals as goal

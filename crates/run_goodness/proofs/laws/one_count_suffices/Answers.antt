@@ -1,4 +1,4 @@
-use Rattle.run_goodness.proofs.Ends.OneCountLemmas as counts
+use Rattle.run_goodness.proofs.Ends as counts
 use Rattle.run_goodness.proofs.laws.one_count_suffices.Goals as goal
 
 pub returns : goal.returns
