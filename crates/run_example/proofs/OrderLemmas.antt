@@ -1,7 +1,7 @@
--- Lists and orders of steps that are written down: what holds of each member, that they are lawful by
--- tests that compute, and a run from two lawful orders. That a step may come is stated by equations
--- that compute, so that `assumption` proves it: a comparison is its test, and a seat holds the lane
--- as it is now.
+-- Lists and orders of steps that are written down: what holds of each member, that they are lawful
+-- by tests that compute, and a run from two lawful orders. That a step may come is stated by
+-- equations that compute, so that `assumption` proves it: a comparison is its test, and a seat
+-- holds the lane as it is now.
 use Rattle.std.proofs.Common.{All, ◌≡◌, ◌⊎◌, ℕ, ◌<◌, ◌≤◌, List, [], ◌∷◌, length, Some, refl, sym}
 use Rattle.std.proofs.Common.{ap, ◌∙◌, subst, arith, inl, inr, ◌≢◌, ◌+◌, true, zero, suc, ◌==◌}
 use Rattle.std.proofs.Common.{◌&&◌, Bool, false, None, ◌^◌}

@@ -1,5 +1,5 @@
--- What a worked run is written down with: orders of steps as moves, the first one first, where a move
--- reads the current words and lanes; choices, turns, the moves of a seat, and plans.
+-- What a worked run is written down with: orders of steps as moves, the first one first, where a
+-- move reads the current words and lanes; choices, turns, the moves of a seat, and plans.
 use Rattle.std.specs.Prelude.{ℕ, ◌+◌, List, [], ◌∷◌, Option, length, zero, suc, ◌-◌, Some, take}
 use Rattle.std.specs.Prelude.{refl}
 use Rattle.backlog.specs.Puts.{put_answer}
