@@ -39,37 +39,25 @@ unfinished : (i : Input) (lanes : List LaneList) (steps : List BoardStep) (g : C
 unfinished i lanes steps g (inl b) = ap is_done b.1
 unfinished i lanes steps g (inr b) = ap is_done b.3
 
+apart : {A : Type 0} → false ≡ true → A
+apart e = absurd (cc)
+
 -- a done command for the size was answered done
 done-answer : (i : Input) (h : History) (t : Try) (n : ℕ) (o : Option Refused)
     → t.given.command ≡ give.Sock n → is_done t.given.answer ≡ true → IsAnswered i h t o
     → t.given.answer ≡ says.Done
 done-answer i h t n (Some (refused.CpuInUse user)) is done answer =
-    absurd (apart (sym (ap is_done answer) ∙ done))
-  where
-    apart : false ≡ true → ⊥
-    apart e = absurd (cc)
+    apart (sym (ap is_done answer) ∙ done)
 done-answer i h t n (Some refused.CpuOffline) is done answer =
-    absurd (apart (sym (ap is_done answer) ∙ done))
-  where
-    apart : false ≡ true → ⊥
-    apart e = absurd (cc)
+    apart (sym (ap is_done answer) ∙ done)
 done-answer i h t n (Some refused.AlreadyOnline) is done answer =
-    absurd (apart (sym (ap is_done answer) ∙ done))
-  where
-    apart : false ≡ true → ⊥
-    apart e = absurd (cc)
+    apart (sym (ap is_done answer) ∙ done)
 done-answer i h t n None is done (inl end) =
     subst (λ c. Rattle.steer_model.specs.Good.Commands.IsEnd i c t.given.answer) is end
 done-answer i h t n None is done (inr (inl (gate, at))) =
-    absurd (apart (sym (unfinished i h.lanes t.rx_steps t.given at) ∙ done))
-  where
-    apart : false ≡ true → ⊥
-    apart e = absurd (cc)
+    apart (sym (unfinished i h.lanes t.rx_steps t.given at) ∙ done)
 done-answer i h t n None is done (inr (inr (gate, at))) =
-    absurd (apart (sym (unfinished i h.tx_lanes t.tx_steps t.given at) ∙ done))
-  where
-    apart : false ≡ true → ⊥
-    apart e = absurd (cc)
+    apart (sym (unfinished i h.tx_lanes t.tx_steps t.given at) ∙ done)
 
 module _ (i : Input) (h : History) (tries : List Try)
     (commands : h.commands ≡ oldest_first (map (λ (t : Try). t.given) tries)) where
