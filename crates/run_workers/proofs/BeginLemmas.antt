@@ -49,19 +49,21 @@ poller_begins : (t : StageView) (s : Seats) (first : ℕ → ℕ) (k : ℕ) (p :
     → IsNewPoller t s.rx.number first k p → KeepsPoller t s first [] [] k p
 poller_begins t s first k p x =
     assumption (
-    subst (λ o. IfSome o (λ z. AreRead (length t.shared.given.homes) p.queue z.reading s.rx.steps
-    z.visit)) (sym x.kept) tt,
-    pollers_begin t.shared.given (first p.queue) t.rx.sizes.start p [] [] s.rx.steps s.hint.steps
-    x.hand x.flows x.choices x.accepted x.table x.ring refl refl)
+      subst (λ o. IfSome o (λ z. AreRead (length t.shared.given.homes) p.queue z.reading s.rx.steps
+          z.visit)) (sym x.kept) tt,
+      pollers_begin t.shared.given (first p.queue) t.rx.sizes.start p [] [] s.rx.steps s.hint.steps
+          x.hand x.flows x.choices x.accepted x.table x.ring refl refl,
+    )
 
 server_begins : (t : StageView) (s : Seats) (rows k : ℕ) (v : Server)
     → IsNewServer t s.tx.number rows k v → KeepsServer t s rows [] [] k v
 server_begins t s rows k v x =
     assumption (
-    subst (λ (visit : Option ℕ). IfSome visit (λ (n : ℕ). HasMaps t.shared.given t.shared.given.txs
-    v.kept.maps s.tx.steps n)) (sym x.kept) tt,
-    servers_begin t.shared.given rows t.tx.sizes.start t.late v [] [] s.rx.steps s.tx.steps
-    s.hint.steps x.hand x.table x.sent x.choices x.writes refl refl)
+      subst (λ (visit : Option ℕ). IfSome visit (λ (n : ℕ). HasMaps t.shared.given
+          t.shared.given.txs v.kept.maps s.tx.steps n)) (sym x.kept) tt,
+      servers_begin t.shared.given rows t.tx.sizes.start t.late v [] [] s.rx.steps s.tx.steps
+          s.hint.steps x.hand x.table x.sent x.choices x.writes refl refl,
+    )
 
 pub workers_begin : WorkersBegin
 workers_begin t w s x =

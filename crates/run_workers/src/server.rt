@@ -13,7 +13,8 @@ ghost use Rattle.steer_model.specs.State.Setup.{Setup, packet_hash};
 ghost use Rattle.run_words.specs.Numbers.{word_count};
 ghost use Rattle.run_words.specs.declared.hint_word.TheConstants.{PACKET_WORDS};
 ghost use Rattle.run_workers.specs.Hands.Pollers.{HasLanesBelow, HasQueueSettings, LoadsHead};
-ghost use Rattle.run_workers.specs.Hands.Servers.{ChoosesLane, HasFlowsBelow, HasTransmitSettings};
+ghost use Rattle.run_workers.specs.Hands.Servers.{ChoosesLane, HasFlowsBelow, HasReplied};
+ghost use Rattle.run_workers.specs.Hands.Servers.{HasTransmitSettings};
 ghost use Rattle.run_workers.specs.Hands.Servers.{IsServer, KeepsMaps, LoadsMark, LooksInVain};
 ghost use Rattle.run_workers.specs.Hands.Servers.{MapsRead};
 ghost use Rattle.run_workers.specs.Hands.Servers.{Notes, Peeks, PutsReply};
@@ -178,8 +179,7 @@ impl Server {
         requires table { seat.old.table ≡ (B.view board.now).table }
         requires hint_table { hint.old.table ≡ shared.now.hints.table }
         requires words { word_count self.old.sent.room ≤ shared.now.hints.words }
-        requires outside { IsOutside seat.old.steps }
-        requires open { HasOpen seat.old.steps }
+        requires outside { IsOutside seat.old.steps × HasOpen seat.old.steps }
         requires settings { HasTransmitSettings (B.view board.now).sizes shared.now.given }
         requires room { self.old.sent.room ≡ (B.view board.now).sizes.room }
         requires is { IsServer shared.now.given self.old }
@@ -188,8 +188,7 @@ impl Server {
             seat.old seat.new hint.old hint.new result }
         ensures is { IsServer shared.now.given self.new }
         ensures kept { KeepsMaps shared.now.given self.new.kept seat.new.steps }
-        ensures outside { IsOutside seat.new.steps }
-        ensures open { HasOpen seat.new.steps }
+        ensures outside { IsOutside seat.new.steps × HasOpen seat.new.steps }
     {
         let Some(id) = self.hand else {
             return false;
@@ -392,13 +391,7 @@ impl Server {
         ensures notes_sent { self.new.sent ≡ grown self.old.sent sent }
         ensures notes_choice { self.new.choices
             ≡ grown self.old.choices (record { id = sent.id; choice = result }) }
-        ensures same { self.new ≡ record self.old {
-          hand = None;
-          table = self.new.table;
-          sent = self.new.sent;
-          choices = self.new.choices;
-          kept = self.new.kept;
-        } }
+        ensures same { HasReplied self.old self.new }
     {
         let Sent { id, rxq, cpu } = sent;
         know_maps(board, shared, seat, &mut self.kept);

@@ -316,6 +316,18 @@ pub record KeepsHand (queues : ℕ) (late : List Arrival) (s t : Server)
   pub untouched : s.hand ≡ None → hint_new ≡ hint_old
   pub gate : ((queue ≡ None) × (new ≡ old)) ⊎ ((IsSome queue) × BacksOut old new)
 
+-- An application has what it had, but for its hand, which is empty, its table, its replies and
+-- their choices, and the maps that it keeps.
+abbrev pub HasReplied : Server → Server → Type 0
+HasReplied s t =
+    t ≡ record s {
+      hand = None;
+      table = t.table;
+      sent = t.sent;
+      choices = t.choices;
+      kept = t.kept;
+    }
+
 -- An application replied to the packet in its hand in one visit, with the queue of this packet, and
 -- noted the reply and the choice.
 pub record RepliesToHand (given : Setup) (late : List Arrival) (s t : Server)
@@ -328,13 +340,7 @@ pub record RepliesToHand (given : Setup) (late : List Arrival) (s t : Server)
   pub replies : Replies given s.app s.home sent s.table t.table turn old new hint_mid hint_new
   pub notes_sent : t.sent ≡ grown s.sent sent
   pub notes_choice : t.choices ≡ grown s.choices turn.chosen
-  pub same : t ≡ record s {
-    hand = None;
-    table = t.table;
-    sent = t.sent;
-    choices = t.choices;
-    kept = t.kept;
-  }
+  pub same : HasReplied s t
 
 -- what an application did, by whether it replied
 abbrev pub RepliesOrKeeps : Setup → List Arrival → Server → Server → BoardSeatView

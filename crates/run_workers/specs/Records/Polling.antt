@@ -99,36 +99,36 @@ module _ (first start : ℕ) where
 
   module _ (given : Setup) (packets q : ℕ) (rx : List BoardStep) (hints : List HintStep)
     where
-    -- A turn of queue q, after these, was by what it looked up and loaded in its visit, and by
-    -- settings that its seat read in a visit with the same number: its choice is the rule's for
-    -- these, and the packet was put with its hash. It marked the packet after its look and after
-    -- the marks of all these turns.
-    pub record IsPolled (ss : List PolledTurn) (s : PolledTurn) : Type 0 where
-      pub within : s.turn.chosen.id < packets
-      pub hash : s.turn.hash ≡ packet_hash given s.turn.chosen.id
-      pub reads : AreRead (length given.homes) q s.reading rx (openings_in s.turn.word)
-      pub want : Option ℕ
-      pub looks : HasLookedUp given.cpus
-          (socket_entry (socket_size_in s.reading.socket)
-          (class_read given s.turn.chosen.id (table_of_turn ss s))
-          (packet_hash given s.turn.chosen.id)) hints s.look want
-      pub last : IfSome s.look (IsLastLook ss)
-      pub marked : nth_step hints s.mark
-          ≡ Some (Store (hint_number (hint.Steered s.turn.chosen.id)) STEERED)
-      pub marked_late : IfSome s.look (λ m. m < s.mark)
-      pub marked_last : IsLastMark ss s.mark
-      pub head : Option ℕ
-      pub loads : IfSome head (LoadedHead (table_of_turn ss s)
-          (class_read given s.turn.chosen.id (table_of_turn ss s)) s.turn.early)
-      pub looked : is_some head
-          ≡ looks_to_head given q s.turn.chosen.id s.reading (table_of_turn ss s) want
-      pub rule : s.turn.chosen.choice
-          ≡ choice_read given q s.turn.chosen.id s.reading (table_of_turn ss s) want head
+      -- A turn of queue q, after these, was by what it looked up and loaded in its visit, and by
+      -- settings that its seat read in a visit with the same number: its choice is the rule's for
+      -- these, and the packet was put with its hash. It marked the packet after its look and after
+      -- the marks of all these turns.
+      pub record IsPolled (ss : List PolledTurn) (s : PolledTurn) : Type 0 where
+        pub within : s.turn.chosen.id < packets
+        pub hash : s.turn.hash ≡ packet_hash given s.turn.chosen.id
+        pub reads : AreRead (length given.homes) q s.reading rx (openings_in s.turn.word)
+        pub want : Option ℕ
+        pub looks : HasLookedUp given.cpus
+            (socket_entry (socket_size_in s.reading.socket)
+            (class_read given s.turn.chosen.id (table_of_turn ss s))
+            (packet_hash given s.turn.chosen.id)) hints s.look want
+        pub last : IfSome s.look (IsLastLook ss)
+        pub marked : nth_step hints s.mark
+            ≡ Some (Store (hint_number (hint.Steered s.turn.chosen.id)) STEERED)
+        pub marked_late : IfSome s.look (λ m. m < s.mark)
+        pub marked_last : IsLastMark ss s.mark
+        pub head : Option ℕ
+        pub loads : IfSome head (LoadedHead (table_of_turn ss s)
+            (class_read given s.turn.chosen.id (table_of_turn ss s)) s.turn.early)
+        pub looked : is_some head
+            ≡ looks_to_head given q s.turn.chosen.id s.reading (table_of_turn ss s) want
+        pub rule : s.turn.chosen.choice
+            ≡ choice_read given q s.turn.chosen.id s.reading (table_of_turn ss s) want head
 
-    -- Each of the turns was so.
-    abbrev pub AllPolled : List PolledTurn → Type 0
-    AllPolled [] = Unit {0}
-    AllPolled (s ∷ ss) = IsPolled ss s × AllPolled ss
+      -- Each of the turns was so.
+      abbrev pub AllPolled : List PolledTurn → Type 0
+      AllPolled [] = Unit {0}
+      AllPolled (s ∷ ss) = IsPolled ss s × AllPolled ss
 
 -- What a poller keeps of its turns, which are among those that explain its seat's list, of their
 -- marks among those of the seat, and of the steps of its seat at the board (`rx`) and at the hint

@@ -18,6 +18,6 @@ invariant_of-office g c =
     t.seat o.transmit_closer o.openings
     (replied o.shared o.hint o.server o.receive o.receive_seat o.receive_closer o.transmit
     o.transmit_seat o.transmit_closer o.openings c.office.invariant c.args.late.now t.self
-    c.reply-sent.result t.seat t.hint e.replies e.is e.kept e.outside e.open)
+    c.reply-sent.result t.seat t.hint e.replies e.is e.kept e.outside.0 e.outside.1)
     (record { 0 = 0 }) c.close_empty.new.seat c.set_and_open.new.seat 0 1 c.in-None.ensures
     c.set_and_open.ensures

@@ -6,9 +6,10 @@ use Rattle.run_workers.proofs.server.Server.reply.Goals as goal
 
 pub send-requires-clause-kept : goal.send-requires-clause-kept
 send-requires-clause-kept g c =
-    maps_later c.args.seat.now.steps c.enter.new.seat.steps
-    (Gate (Entered c.in-Ok.ensures.step.0) ∷ [],
-    ap (λ (s : BoardSeatView). s.steps) c.in-Ok.ensures.step.2)
+    maps_later c.args.seat.now.steps c.enter.new.seat.steps (
+      Gate (Entered c.in-Ok.ensures.step.0) ∷ [],
+      ap (λ (s : BoardSeatView). s.steps) c.in-Ok.ensures.step.2,
+    )
     c.args.shared.now.given c.args.self.now.kept c.requires.kept
 
 pub returns-in-Ok-clause-kept : goal.returns-in-Ok-clause-kept
@@ -19,9 +20,11 @@ returns-in-Ok-clause-kept g c =
 
 pub returns-in-Closed-clause-kept : goal.returns-in-Closed-clause-kept
 returns-in-Closed-clause-kept g c =
-    maps_later c.args.seat.now.steps c.enter.new.seat.steps
-    (Gate Left ∷ Gate (Turned _) ∷ [], ap (λ (s : BoardSeatView). s.steps)
-    c.in-Closed.ensures.step.1)
+    maps_later c.args.seat.now.steps c.enter.new.seat.steps (
+      Gate Left ∷ Gate (Turned _) ∷ [],
+      ap (λ (s : BoardSeatView). s.steps)
+          c.in-Closed.ensures.step.1,
+    )
     c.args.shared.now.given c.args.self.now.kept c.requires.kept
 
 pub leave-requires-clause-inside : goal.leave-requires-clause-inside
@@ -54,12 +57,14 @@ returns-in-Ok-clause-replies g c =
       same = c.send.ensures.same;
     }
 
-pub returns-in-Ok-clause-open : goal.returns-in-Ok-clause-open
-returns-in-Ok-clause-open g c =
-    ap (λ (s : BoardSeatView). closed (gate_steps s.steps)) c.leave.ensures
-    ∙ sends_open c.args.shared.now.given
-    (record { id = c.in-Some.id; rxq = c.in-Some-queue_of.rxq; cpu = c.stand-cpu.result })
-    c.send.result c.args.self.now.table c.send.new.self.table c.enter.new.seat c.send.new.seat
-    c.send.ensures.sends
-    (ap (λ (s : BoardSeatView). closed (gate_steps s.steps)) c.in-Ok.ensures.step.2
-    ∙ c.requires.open)
+pub returns-in-Ok-clause-outside : goal.returns-in-Ok-clause-outside
+returns-in-Ok-clause-outside g c = (
+  ap (λ (s : BoardSeatView). visit (gate_steps s.steps)) c.leave.ensures,
+  ap (λ (s : BoardSeatView). closed (gate_steps s.steps)) c.leave.ensures
+      ∙ sends_open c.args.shared.now.given
+      (record { id = c.in-Some.id; rxq = c.in-Some-queue_of.rxq; cpu = c.stand-cpu.result })
+      c.send.result c.args.self.now.table c.send.new.self.table c.enter.new.seat c.send.new.seat
+      c.send.ensures.sends
+      (ap (λ (s : BoardSeatView). closed (gate_steps s.steps)) c.in-Ok.ensures.step.2
+      ∙ c.requires.outside.1),
+)

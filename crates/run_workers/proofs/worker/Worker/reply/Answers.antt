@@ -14,8 +14,7 @@ reply-requires g c =
       table = c.requires.is.tx.table;
       hint_table = c.requires.is.hint_table;
       words = words_within _ _ at.room c.requires.is.sizes;
-      outside = c.requires.is.tx.outside;
-      «open» = c.requires.is.tx.gate;
+      outside = (c.requires.is.tx.outside, c.requires.is.tx.gate);
       settings = c.requires.is.sizes.maps;
       room = reply_room _ c.args.self.now c.args.seats.now c.requires.is c.args.i _ at;
       is = at.is;
@@ -34,7 +33,8 @@ returns g c =
     record {
       goes = reply_goes_on _ c.args.self.now _ c.args.seats.now _ c.args.i c.index_mut.result.now
           c.reply.new.self c.reply.result refl refl refl refl refl there c.requires.is replies
-          c.reply.ensures.is c.reply.ensures.kept c.reply.ensures.outside c.reply.ensures.open;
+          c.reply.ensures.is c.reply.ensures.kept c.reply.ensures.outside.0
+          c.reply.ensures.outside.1;
       one = record {
         x = c.index_mut.result.now;
         y = c.reply.new.self;
