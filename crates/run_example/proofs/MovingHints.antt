@@ -1,8 +1,7 @@
--- The hint words of the run with loads: their order, the looks and the stores; how loads were used,
--- and that the run keeps all coupling invariants.
+-- The hint words of the run with loads: their order, the looks and the stores.
 use Rattle.std.proofs.Common.{◌≡◌, ◌≢◌, ◌⊎◌, inl, inr, ℕ, zero, suc, ◌+◌, ◌*◌, ◌^◌, ◌<◌, ◌≤◌, Bool}
 use Rattle.std.proofs.Common.{true, false, List, [], ◌∷◌, Option, None, Some, length, refl, sym, ap}
-use Rattle.std.proofs.Common.{subst, ◌∙◌, arith, map, All}
+use Rattle.std.proofs.Common.{subst, ◌∙◌, arith}
 use Rattle.std.specs.List.{Contains}
 use Rattle.std.specs.Prelude.{slice_get}
 use Rattle.atomic_table.specs.Seated.{TableId}
@@ -27,37 +26,25 @@ use Rattle.hop_delivery.specs.Orders.Turns.{Turn}
 use Rattle.run_words.specs.Values.{filter_word, place_word}
 use Rattle.steer_model.specs.Good.Choices.{WasWritten}
 use Rattle.steer_model.specs.Good.Inputs.{setup_in}
-use Rattle.steer_model.specs.State.Setup.{packet_hash, app_for}
+use Rattle.steer_model.specs.State.Setup.{packet_hash}
 use Rattle.run_example.specs.Moves.{of_first, of_two}
 use Rattle.run_example.specs.MovingRun.{flow_entry, flow_filter, its_mark, its_queue, its_write}
 use Rattle.run_example.specs.MovingRun.{moving_hint_order, moving_history, moving_seats}
-use Rattle.run_example.specs.MovingRun.{to_other_queue, wire_steps, worker_steps, MovingRunExists}
-use Rattle.run_example.specs.MovingRun.{flow_queue, its_stand, moving_rx, moving_rx_order}
-use Rattle.run_example.specs.MovingRun.{moving_tx, moving_tx_order}
-use Rattle.run_coupling.specs.Coupling.Hints.{LookedUp, StoresAreMeant, WantsAreLoaded, WasFiltered}
-use Rattle.run_coupling.specs.Coupling.Hints.{WasLoaded, WasRead, entry_of, AreRecorded, CameBy}
-use Rattle.run_coupling.specs.Coupling.Hints.{IsRouted, LoadsAreUsed, Stands}
-use Rattle.run_coupling.specs.Coupling.Inputs.{receive_queues, FlowsHaveOneHash}
+use Rattle.run_example.specs.MovingRun.{to_other_queue, wire_steps, worker_steps}
+use Rattle.run_coupling.specs.Coupling.Hints.{LookedUp, StoresAreMeant, WantsAreLoaded}
+use Rattle.run_coupling.specs.Coupling.Hints.{WasFiltered, WasLoaded, WasRead, entry_of}
+use Rattle.run_coupling.specs.Coupling.Inputs.{receive_queues}
 use Rattle.run_coupling.specs.Coupling.Marks.{EntriesAreWritten, FiltersAreAnnounced, FoundSet}
 use Rattle.run_coupling.specs.Coupling.Marks.{IsMadeFor, IsMarkedWrite, KeepsMarks, LoadsFilter}
 use Rattle.run_coupling.specs.Coupling.Marks.{MarksAreOfTurns, WasMarked, WireIsInTurn}
 use Rattle.run_coupling.specs.Coupling.Marks.{WritesAreMarked}
 use Rattle.run_coupling.proofs.Runs.CodeLemmas.{shared}
-use Rattle.run_example.proofs.OrderLemmas.{EachStore, all_by_test, lawful_by_test, number_of}
-use Rattle.run_example.proofs.OrderLemmas.{store_of_each, write_of_each, all_of_each, KeepsHints}
-use Rattle.run_example.proofs.OrderLemmas.{run_of}
-use Rattle.run_example.proofs.MovingBoards.{i, rx_own, rx_seen, rx_execution, tx_own, tx_seen}
-use Rattle.run_example.proofs.MovingBoards.{tx_execution}
-use Rattle.std.proofs.lemmas.List.Elements.{All-nil}
-use Rattle.steer_base.specs.Sets.{those_below}
-use Rattle.hop_rule.specs.Deliveries.{Delivery}
-use Rattle.hop_rule.specs.Sizes.{puller}
-use Rattle.board_api.specs.Closings.Finals.{lists_of}
-use Rattle.board_api.specs.OwnSteps.{delivered_by}
-use Rattle.hop_delivery.specs.Orders.TransmitSettings.{pick_by}
-use Rattle.run_coupling.specs.Coupling.Applications.{KeepsApplications, WasFoundAt}
-use Rattle.run_coupling.specs.Coupling.Runs.{ReceiveCoupling, TransmitCoupling}
-use Rattle.run_example.proofs.MovingBoards as boards
+use Rattle.run_example.proofs.HintLemmas.{EachStore, all_by_test, lawful_by_test, number_of}
+use Rattle.run_example.proofs.HintLemmas.{store_of_each, write_of_each}
+use Rattle.run_example.proofs.ListLemmas.{all_of_each}
+use Rattle.run_example.proofs.MovingBoards.{i, rx_own}
+use Rattle.run_example.proofs.MovingTurns as turns
+use Rattle.run_example.proofs.MovingTurns.{rx_seen, rx_execution}
 
 abbrev pub sent_first : Sent
 sent_first = record { id = 0; rxq = 0; cpu = 1 }
@@ -110,7 +97,8 @@ module _ (table : TableId) where
   -- a load of the wire, and one of the worker
   pub by-wire : (word value : ℕ) → Contains wire_steps (Load word value)
       → WasLoaded seats word value
-  by-wire word value has = record { seat = the_wire; among = (0, omega arith, refl); loads = has }
+  by-wire word value has =
+      record { seat = the_wire; among = (0, omega arith, refl); loads = has }
 
   pub by-worker : (word value : ℕ) → Contains worker_steps (Load word value)
       → WasLoaded seats word value
@@ -138,7 +126,7 @@ module _ (table : TableId) where
       (entry_of (rx_seen q k (socket_word (receive_queues i))) u.chosen.choice.class
       (packet_hash (setup_in i) u.chosen.id)) (look q k) u.chosen.choice.want
   looked =
-      boards.rx-each (λ q k u. LookedUp shared 2 the_worker
+      turns.rx-each (λ q k u. LookedUp shared 2 the_worker
       (entry_of (rx_seen q k (socket_word (receive_queues i))) u.chosen.choice.class
       (packet_hash (setup_in i) u.chosen.id)) (look q k) u.chosen.choice.want)
       (1, 0, refl, refl, none 2) (9, 2, refl, refl, (omega arith, refl)) (refl, refl)
@@ -156,7 +144,7 @@ module _ (table : TableId) where
   pub before : (q j k m : ℕ) (u : Turn) → j ≤ k → nth_step (turns_of rx_execution q) k ≡ Some u
       → look q j ≡ Some m → m < mark q k
   before q j k m u le at is =
-      boards.rx-each (λ q k u. (j m : ℕ) → j ≤ k → look q j ≡ Some m → m < mark q k)
+      turns.rx-each (λ q k u. (j m : ℕ) → j ≤ k → look q j ≡ Some m → m < mark q k)
       first second
       (λ j m le is. none-some m is) q k u at j m le is
     where
@@ -171,8 +159,13 @@ module _ (table : TableId) where
 
   abbrev pub wants : WantsAreLoaded i moving_history shared seats rx_execution rx_seen
   wants q less = record {
-    seat = the_worker; among = (1, omega arith, refl); step = look q; each = looked q;
-    order = in-order q; mark = mark q; before = before q;
+    seat = the_worker;
+    among = (1, omega arith, refl);
+    step = look q;
+    each = looked q;
+    order = in-order q;
+    mark = mark q;
+    before = before q;
   }
 
   -- ---- stores
@@ -227,8 +220,12 @@ module _ (table : TableId) where
       → IsStore the_wire n word value
   announces packet n word value small word_is value_is after =
       inl (record {
-        packet = packet; small = small; word_is = word_is; value_is = value_is;
-        seat_is = refl; after = after;
+        packet = packet;
+        small = small;
+        word_is = word_is;
+        value_is = value_is;
+        seat_is = refl;
+        after = after;
       })
 
   writes : (index n step : ℕ) (s : Sent)
@@ -238,9 +235,14 @@ module _ (table : TableId) where
       → IsStore the_worker n flow_entry (place_word 1)
   writes index n step s is for earlier loads =
       inr (inr (inl (record {
-        word_is = refl; value_is = refl;
+        word_is = refl;
+        value_is = refl;
         write = record {
-          app = 0; index = index; is = is; sent = s; for = for;
+          app = 0;
+          index = index;
+          is = is;
+          sent = s;
+          for = for;
           marked = found (its_mark s.id) step n 1 earlier loads (λ e. absurd (omega arith));
         };
       })))
@@ -250,10 +252,18 @@ module _ (table : TableId) where
       → u.chosen.id ≡ packet → mark queue index ≡ n → IsStore the_worker n word 1
   marks queue index packet n word u within small word_is is packet_is step_is =
       inr (inl (record {
-        packet = packet; small = small; word_is = word_is;
+        packet = packet;
+        small = small;
+        word_is = word_is;
         mark = record {
-          queue = queue; within = within; index = index; turn = u;
-          is = is; packet_is = packet_is; seat_is = refl; step_is = step_is;
+          queue = queue;
+          within = within;
+          index = index;
+          turn = u;
+          is = is;
+          packet_is = packet_is;
+          seat_is = refl;
+          step_is = step_is;
         };
       }))
 
@@ -261,11 +271,19 @@ module _ (table : TableId) where
   filters : IsStore the_worker 11 flow_filter (filter_word to_other_queue)
   filters =
       inr (inr (inr (record {
-        word_is = refl; value_is = refl;
+        word_is = refl;
+        value_is = refl;
         filter = (
           record {
-            producer = 0; index = 1; turn = boards.turn_again; position = 1;
-            is = refl; moved = refl; home = refl; accepted = refl; there = refl;
+            producer = 0;
+            index = 1;
+            turn = turns.turn_again;
+            position = 1;
+            is = refl;
+            moved = refl;
+            home = refl;
+            accepted = refl;
+            there = refl;
           },
           found (its_queue 1) 8 11 1 (omega arith) refl (λ e. absurd (omega arith)),
         );
@@ -284,18 +302,18 @@ module _ (table : TableId) where
   worker-stores = (
     writes 2 21 19 sent_third refl refl (omega arith) refl,
     (
-      marks 1 0 2 18 (its_mark 2) boards.turn_other (omega arith) (omega arith) refl refl refl refl,
+      marks 1 0 2 18 (its_mark 2) turns.turn_other (omega arith) (omega arith) refl refl refl refl,
       (
         writes 1 14 12 sent_second refl refl (omega arith) refl,
         (
           filters,
           (
-            marks 0 1 1 10 (its_mark 1) boards.turn_again (omega arith) (omega arith) refl refl refl
+            marks 0 1 1 10 (its_mark 1) turns.turn_again (omega arith) (omega arith) refl refl refl
                 refl,
             (
               writes 0 5 3 sent_first refl refl (omega arith) refl,
               (
-                marks 0 0 0 2 (its_mark 0) boards.turn_first (omega arith) (omega arith) refl refl
+                marks 0 0 0 2 (its_mark 0) turns.turn_first (omega arith) (omega arith) refl refl
                     refl refl,
                 tt,
               ),
@@ -335,29 +353,35 @@ module _ (table : TableId) where
   at-entry seat n place value less (inl a) = let e = a.word_is in absurd (omega arith)
   at-entry seat n place value less (inr (inl m)) = let e = m.word_is in absurd (omega arith)
   at-entry seat n place value less (inr (inr (inl w))) = w
-  at-entry seat n place value less (inr (inr (inr f))) = let e = f.word_is in absurd (omega arith)
+  at-entry seat n place value less (inr (inr (inr f))) =
+      let e = f.word_is in absurd (omega arith)
 
   -- what is stored at the word of a filter is the filter of packet 1
   at-filter : (seat : SeatView HintStep) (n place value : ℕ) → place < 2
-      → IsStore seat n (65696 + place) value → (place ≡ 0) × (value ≡ 530) × SetsFilter seat n 0 1
+      → IsStore seat n (65696 + place) value
+      → (place ≡ 0) × (value ≡ 530) × SetsFilter seat n 0 1
   at-filter seat n place value less (inl a) = let e = a.word_is in absurd (omega arith)
   at-filter seat n place value less (inr (inl m)) = let e = m.word_is in absurd (omega arith)
-  at-filter seat n place value less (inr (inr (inl w))) = let e = w.word_is in absurd (omega arith)
+  at-filter seat n place value less (inr (inr (inl w))) =
+      let e = w.word_is in absurd (omega arith)
   at-filter seat n place value less (inr (inr (inr f))) =
       let e = f.word_is in (omega arith, f.value_is, f.filter)
 
   -- what is stored at the word of a packet's queue is the queue of its arrival
   at-packet : (seat : SeatView HintStep) (n x value : ℕ) → x < 3
       → IsStore seat n (69793 + 2 * x) value
-      → (value ≡ (arrival_of moving_history.arrivals x).queue + 1) × (seat ≡ the_wire) × (3 * x < n)
+      → (value ≡ (arrival_of moving_history.arrivals x).queue + 1) × (seat ≡ the_wire)
+      × (3 * x < n)
   at-packet seat n x value less (inl a) =
       let e = a.word_is in
       let same : a.packet ≡ x = omega arith in
       subst (λ y. (value ≡ (arrival_of moving_history.arrivals y).queue + 1) × (seat ≡ the_wire)
       × (3 * y < n)) same (a.value_is, a.seat_is, a.after)
   at-packet seat n x value less (inr (inl m)) = let e = m.word_is in absurd (omega arith)
-  at-packet seat n x value less (inr (inr (inl w))) = let e = w.word_is in absurd (omega arith)
-  at-packet seat n x value less (inr (inr (inr f))) = let e = f.word_is in absurd (omega arith)
+  at-packet seat n x value less (inr (inr (inl w))) =
+      let e = w.word_is in absurd (omega arith)
+  at-packet seat n x value less (inr (inr (inr f))) =
+      let e = f.word_is in absurd (omega arith)
 
   -- what is stored at a mark
   at-mark : (seat : SeatView HintStep) (n x value : ℕ) → x < 3
@@ -377,8 +401,10 @@ module _ (table : TableId) where
       → IsStore seat n word value → ⊥
   at-none seat n word value low high (inl a) = let e = a.word_is in absurd (omega arith)
   at-none seat n word value low high (inr (inl m)) = let e = m.word_is in absurd (omega arith)
-  at-none seat n word value low high (inr (inr (inl w))) = let e = w.word_is in absurd (omega arith)
-  at-none seat n word value low high (inr (inr (inr f))) = let e = f.word_is in absurd (omega arith)
+  at-none seat n word value low high (inr (inr (inl w))) =
+      let e = w.word_is in absurd (omega arith)
+  at-none seat n word value low high (inr (inr (inr f))) =
+      let e = f.word_is in absurd (omega arith)
 
   -- the write
   the-write : (cpu : ℕ) → cpu + 1 ≡ 2 → cpu ≡ 1
@@ -389,33 +415,34 @@ module _ (table : TableId) where
   filter-queue f queue cpu e = omega arith
 
   pub meant : StoresAreMeant i moving_history shared seats rx_execution
-  meant = record {
-    sockets = λ place cpu less s.
-        (let k = stored place (place_word cpu) s in
-        let w = at-entry s.seat k.0 place (place_word cpu) less k.1 in
-        subst (λ (z : ℕ × ℕ). WasWritten moving_history (record { entry = z.0; cpu = z.1 }))
-        (λ j. (sym w.word_is j, sym (the-write cpu w.value_is) j)) (0, 0, refl));
-    entries = λ place q less s.
-        (let k = stored (shared.entry place) (place_word q) s in
-        let small : place < 128 = less in
-        absurd (at-none s.seat k.0 (65536 + place) (place_word q) (omega arith) (omega arith)
-        k.1));
-    stands = λ a cpu less s.
-        (let k = stored (shared.stand a) (place_word cpu) s in
-        let small : a < 1 = less in
-        absurd (at-none s.seat k.0 (65664 + a) (place_word cpu) (omega arith) (omega arith)
-        k.1));
-    filters = λ place f less queue cpu s.
-        (let k = stored (shared.filter place) (filter_word f) s in
-        let w = at-filter s.seat k.0 place (filter_word f) less k.1 in
-        subst (λ (z : ℕ × ℕ). WasFiltered i rx_execution z.0 z.1)
-        (λ j. (sym w.0 j, sym (filter-queue f queue cpu w.1) j)) w.2.0);
-    packets = λ x q less s.
-        (let k = stored (shared.packet x) (place_word q) s in
-        let w = at-packet s.seat k.0 x (place_word q) less k.1 in
-        let is : q + 1 ≡ (arrival_of moving_history.arrivals x).queue + 1 = w.0 in
-        omega arith);
-  }
+  meant =
+      record {
+        sockets = λ place cpu less s.
+            (let k = stored place (place_word cpu) s in
+            let w = at-entry s.seat k.0 place (place_word cpu) less k.1 in
+            subst (λ (z : ℕ × ℕ). WasWritten moving_history (record { entry = z.0; cpu = z.1 }))
+            (λ j. (sym w.word_is j, sym (the-write cpu w.value_is) j)) (0, 0, refl));
+        entries = λ place q less s.
+            (let k = stored (shared.entry place) (place_word q) s in
+            let small : place < 128 = less in
+            absurd (at-none s.seat k.0 (65536 + place) (place_word q) (omega arith) (omega arith)
+            k.1));
+        stands = λ a cpu less s.
+            (let k = stored (shared.stand a) (place_word cpu) s in
+            let small : a < 1 = less in
+            absurd (at-none s.seat k.0 (65664 + a) (place_word cpu) (omega arith) (omega arith)
+            k.1));
+        filters = λ place f less queue cpu s.
+            (let k = stored (shared.filter place) (filter_word f) s in
+            let w = at-filter s.seat k.0 place (filter_word f) less k.1 in
+            subst (λ (z : ℕ × ℕ). WasFiltered i rx_execution z.0 z.1)
+            (λ j. (sym w.0 j, sym (filter-queue f queue cpu w.1) j)) w.2.0);
+        packets = λ x q less s.
+            (let k = stored (shared.packet x) (place_word q) s in
+            let w = at-packet s.seat k.0 x (place_word q) less k.1 in
+            let is : q + 1 ≡ (arrival_of moving_history.arrivals x).queue + 1 = w.0 in
+            omega arith);
+      }
 
   -- ---- marks
 
@@ -424,14 +451,17 @@ module _ (table : TableId) where
   filter_look x = 3 * x
 
   wire-in-turn : WireIsInTurn i moving_history shared seats
-  wire-in-turn = record {
-    wire = the_wire; among = (0, omega arith, refl); look = filter_look;
-    looks = λ a hash queue arrived has came. by-arrival a hash queue arrived has came;
-    tells = λ seat x y n value hash among le less has at.
-        (let w = at-packet seat n y value less (known seat n (shared.packet y) value among at)
-        in
-        let after = w.2 in (w.1, omega (arith, after, le)));
-  }
+  wire-in-turn =
+      record {
+        wire = the_wire;
+        among = (0, omega arith, refl);
+        look = filter_look;
+        looks = λ a hash queue arrived has came. by-arrival a hash queue arrived has came;
+        tells = λ seat x y n value hash among le less has at.
+            (let w = at-packet seat n y value less (known seat n (shared.packet y) value among at)
+            in
+            let after = w.2 in (w.1, omega (arith, after, le)));
+      }
     where
       filter-of : (r s : Route) → r ≡ s → r.filter ≡ s.filter
       filter-of r s e = ap (λ (r : Route). r.filter) e
@@ -459,10 +489,16 @@ module _ (table : TableId) where
           LoadsFilter i moving_history shared seats the_wire (filter_look z.0) z.1.0 z.1.1)
           (λ j. (two j, (of-two j, one j)))
           (record {
-            place = 0; filter = to_other_queue; here = refl; queue_is = refl;
-            queue_within = omega arith; cpu_within = omega arith; loads = refl;
+            place = 0;
+            filter = to_other_queue;
+            here = refl;
+            queue_is = refl;
+            queue_within = omega arith;
+            cpu_within = omega arith;
+            loads = refl;
           })
-      by-arrival a hash queue (suc (suc (suc k)), less, is) has came = absurd (omega (arith, less))
+      by-arrival a hash queue (suc (suc (suc k)), less, is) has came =
+          absurd (omega (arith, less))
 
   filters-announced : FiltersAreAnnounced i moving_history shared seats rx_execution
   filters-announced seat n place f among less queue cpu at =
@@ -480,24 +516,34 @@ module _ (table : TableId) where
   size-was-read = record { seat = 0; step = 3; does = refl; in_visit = refl }
 
   writes-marked : WritesAreMarked i moving_history shared seats rx_own
-  writes-marked = record {
-    reply = reply; rise = λ a m n less within. less; made_for = made-for;
-    stored = λ seat n place cpu among less at.
-        (let w = at-entry seat n place (place_word cpu) less
-        (known seat n (shared.socket place) (place_word cpu) among at) in
-        subst (λ (z : ℕ × ℕ). IsMarkedWrite i moving_history shared seats reply seat n
-        (record { entry = z.0; cpu = z.1 }))
-        (λ j. (sym w.word_is j, sym (the-write cpu w.value_is) j)) w.write);
-  }
+  writes-marked =
+      record {
+        reply = reply;
+        rise = λ a m n less within. less;
+        made_for = made-for;
+        stored = λ seat n place cpu among less at.
+            (let w = at-entry seat n place (place_word cpu) less
+            (known seat n (shared.socket place) (place_word cpu) among at) in
+            subst (λ (z : ℕ × ℕ). IsMarkedWrite i moving_history shared seats reply seat n
+            (record { entry = z.0; cpu = z.1 }))
+            (λ j. (sym w.word_is j, sym (the-write cpu w.value_is) j)) w.write);
+      }
     where
-      made : (n : ℕ) (s : Sent) → slice_get (list_at moving_history.writes 0) n ≡ Some its_write
+      made : (n : ℕ) (s : Sent)
+          → slice_get (list_at moving_history.writes 0) n ≡ Some its_write
           → slice_get (list_at moving_history.sent 0) n ≡ Some s
           → packet_hash (setup_in i) s.id ≡ Some 2
           → IsMadeFor i moving_history shared seats rx_own 0 n n
-      made n s is for has = record {
-        write = its_write; sent = s; is = is; for = for;
-        size = 2; read = size-was-read; entry = ap (class_of 2) has;
-      }
+      made n s is for has =
+          record {
+            write = its_write;
+            sent = s;
+            is = is;
+            for = for;
+            size = 2;
+            read = size-was-read;
+            entry = ap (class_of 2) has;
+          }
 
       made-for : (a n : ℕ) → n < length (list_at moving_history.writes a)
           → IsMadeFor i moving_history shared seats rx_own a n n
@@ -516,213 +562,11 @@ module _ (table : TableId) where
       inl (1, w.value_is, omega arith)
 
   pub marks-kept : KeepsMarks i moving_history shared seats rx_own rx_execution rx_seen wants
-  marks-kept = record {
-    wire = wire-in-turn; filters = filters-announced;
-    marks = marks-of-turns; writes = writes-marked; entries = entries-written;
-  }
-
--- ---- the application
-
--- what holds of the three replies holds of each
-sent-each : (P : ℕ → ℕ → Sent → Type 0) → P 0 0 sent_first → P 0 1 sent_second → P 0 2 sent_third
-    → (a k : ℕ) (s : Sent) → slice_get (list_at moving_history.sent a) k ≡ Some s → P a k s
-sent-each P x y z zero zero s at = subst (P 0 0) (some-is sent_first s at) x
-sent-each P x y z zero (suc zero) s at = subst (P 0 1) (some-is sent_second s at) y
-sent-each P x y z zero (suc (suc zero)) s at = subst (P 0 2) (some-is sent_third s at) z
-sent-each P x y z zero (suc (suc (suc k))) s at = none-some s at
-sent-each P x y z (suc a) k s at = none-some s at
-
--- the maps pick transmit queue 0 for the packets of queue 0, and 1 for that of queue 1
-picks : (a k : ℕ) (u : Turn) (s : Sent) → nth_step (turns_of tx_execution a) k ≡ Some u
-    → slice_get (list_at moving_history.sent a) k ≡ Some s → u.chosen.choice.want
-    ≡ Some (pick_by 2 (tx_seen a k) s.rxq s.cpu (packet_hash (setup_in i) s.id))
-unfolding those_below
-picks a k u s at there =
-    boards.tx-each (λ a k u. (s : Sent) → slice_get (list_at moving_history.sent a) k ≡ Some s
-    → u.chosen.choice.want
-    ≡ Some (pick_by 2 (tx_seen a k) s.rxq s.cpu (packet_hash (setup_in i) s.id)))
-    (λ s there. ap (λ (s : Sent).
-    Some (pick_by 2 (tx_seen 0 0) s.rxq s.cpu (packet_hash (setup_in i) s.id)))
-    (some-is sent_first s there))
-    (λ s there. ap (λ (s : Sent).
-    Some (pick_by 2 (tx_seen 0 1) s.rxq s.cpu (packet_hash (setup_in i) s.id)))
-    (some-is sent_second s there))
-    (λ s there. ap (λ (s : Sent).
-    Some (pick_by 2 (tx_seen 0 2) s.rxq s.cpu (packet_hash (setup_in i) s.id)))
-    (some-is sent_third s there)) a k u at s there
-
-applications-kept : KeepsApplications i moving_history rx_own moving_tx tx_own tx_execution tx_seen
-applications-kept = record {
-  turns = boards.tx-kept; sent_lists = refl; choice_lists = refl; write_lists = refl;
-  replies = replies; choices = choices;
-  found = sent-each (λ a k s. WasFoundAt rx_own a k s.id)
-      (record { seat = 0; step = 13; word = _; found = _; does = refl; there = refl })
-      (record { seat = 0; step = 41; word = _; found = _; does = refl; there = refl })
-      (record { seat = 0; step = 41; word = _; found = _; does = refl; there = refl });
-  knows = boards.maps-known;
-  picks = λ a k u s at there fit. picks a k u s at there;
-  by_table = boards.by-tables;
-}
-  where
-    replies : (a : ℕ) → tx_execution.arrivals a
-        ≡ map (λ (s : Sent). s.id) (list_at moving_history.sent a)
-    replies zero = refl
-    replies (suc a) = refl
-
-    choices : (a : ℕ) → list_at moving_history.tx_choices a ≡ tx_execution.choices a
-    choices zero = refl
-    choices (suc a) = refl
-
--- ---- how loads were used
-
-module _ (table : TableId) where
-  -- an arrival for which the wire found no filter, and no entry but the plan's
-  by-plan : (a : Arrival) → Contains wire_steps (Load flow_filter 0)
-      → Contains wire_steps (Load flow_queue 0) → route_of a ≡ route (Some 2) None 0
-      → IsRouted i moving_history shared (seats table) (Some 2) a
-  by-plan a filter entry way = inl (
-    0, way, inr (0, 0, refl, by-wire table flow_filter 0 filter, no-filter table),
-    inr ((0, by-wire table flow_queue 0 entry, none table 2), refl),
-  )
-
-  stood : Contains worker_steps (Load its_stand 0)
-      → Stands i moving_history shared (seats table) 0 1
-  stood has = inr ((0, by-worker table its_stand 0 has, none table 2), refl)
-
-  announced : (x q : ℕ) → q < 2 → Contains worker_steps (Load (its_queue x) (place_word q))
-      → CameBy i moving_history shared (seats table) x q
-  announced x q less has =
-      inl (q + 1, by-worker table (its_queue x) (place_word q) has, (less, refl))
-
-  abbrev used : LoadsAreUsed i moving_history shared (seats table) rx_own rx_execution rx_seen
-  used = record {
-    arrivals = all_of_each
-        (λ (a : Arrival). IsRouted i moving_history shared (seats table)
-        (packet_hash (setup_in i) a.id) a) moving_history.arrivals (
-          by-plan (record { id = 0; queue = 0; filter = None; entry = Some 0 })
-              (7, omega arith, refl) (6, omega arith, refl) refl,
-          (
-            by-plan (record { id = 1; queue = 0; filter = None; entry = Some 0 })
-                (4, omega arith, refl) (3, omega arith, refl) refl,
-            (
-              inr (
-                0, to_other_queue, omega arith, omega arith, refl, refl,
-                by-wire table flow_filter (filter_word to_other_queue) (1, omega arith, refl),
-              ),
-              tt,
-            ),
-          ),
-        );
-    wants = wants table; queues = queues; stands = stands; writes = writes;
-  }
-    where
-      queues : (a : ℕ) → All (λ (s : Sent). CameBy i moving_history shared (moving_seats table)
-          s.id s.rxq) (list_at moving_history.sent a)
-      queues zero =
-          all_of_each (λ (s : Sent). CameBy i moving_history shared (moving_seats table) s.id s.rxq)
-          (sent_first ∷ sent_second ∷ sent_third ∷ []) (
-            announced 0 0 (omega arith) (17, omega arith, refl),
-            (
-              announced 1 0 (omega arith) (8, omega arith, refl),
-              (announced 2 1 (omega arith) (1, omega arith, refl), tt),
-            ),
-          )
-      queues (suc a) =
-          All-nil (λ (s : Sent). CameBy i moving_history shared (moving_seats table) s.id s.rxq)
-
-      stands : (a : ℕ) → All (λ (s : Sent). Stands i moving_history shared (moving_seats table) a
-          s.cpu) (list_at moving_history.sent a)
-      stands zero =
-          all_of_each (λ (s : Sent). Stands i moving_history shared (moving_seats table) 0 s.cpu)
-          (sent_first ∷ sent_second ∷ sent_third ∷ []) (
-            stood (16, omega arith, refl),
-            (stood (7, omega arith, refl), (stood (0, omega arith, refl), tt)),
-          )
-      stands (suc a) =
-          All-nil (λ (s : Sent). Stands i moving_history shared (moving_seats table) (suc a) s.cpu)
-
-      writes : (a : ℕ) → AreRecorded i moving_history shared (moving_seats table) rx_own a
-          (map (λ (s : Sent). s.id) (list_at moving_history.sent a))
-          (list_at moving_history.writes a)
-      writes zero =
-          inr (inl (
-            2, its_write, its_write ∷ its_write ∷ [], 2, refl, refl, size-was-read table, refl,
-            stood (19, omega arith, refl),
-            inr (inl (
-              2, its_write, its_write ∷ [], 2, refl, refl, size-was-read table, refl,
-              stood (10, omega arith, refl),
-              inr (inl (
-                2, its_write, [], 2, refl, refl, size-was-read table, refl,
-                stood (3, omega arith, refl), refl,
-              )),
-            )),
-          ))
-      writes (suc a) = refl
-
--- ---- all together
-
-received : ReceiveCoupling i moving_history moving_rx rx_own (lists_of moving_rx moving_rx_order)
-    boards.tries rx_execution rx_seen
-received = record {
-  board = record {
-    start = refl; lane_count = refl; out_count = refl; limit = refl;
-    room = refl; limited = refl; settings = boards.first-words; lanes = refl; inboxes = refl;
-  };
-  tries_are = boards.rx-tries; finds = boards.finds; queues = boards.queues-kept; right = right;
-  retired = refl;
-}
-  where
-    right : (l : ℕ) → l < 2 → All (λ (g : Delivery). g.to ≡ app_for (setup_in i) g.id)
-        (delivered_by l (rx_own (puller moving_rx l)))
-    right zero less =
-        all_of_each (λ (g : Delivery). g.to ≡ app_for (setup_in i) g.id)
-        (delivered_by 0 (rx_own (puller moving_rx 0))) (refl, tt)
-    right (suc zero) less =
-        all_of_each (λ (g : Delivery). g.to ≡ app_for (setup_in i) g.id)
-        (delivered_by 1 (rx_own (puller moving_rx 1))) (refl, (refl, tt))
-    right (suc (suc l)) less = absurd (omega arith)
-
-sent : TransmitCoupling i moving_history rx_own moving_tx tx_own
-    (lists_of moving_tx moving_tx_order)
-    boards.tries tx_execution tx_seen
-sent = record {
-  board = record {
-    start = refl; lane_count = refl; out_count = refl; limit = refl;
-    limited = refl; settings = boards.first-maps; lanes = refl; port = refl;
-  };
-  tries_are = boards.tx-tries; applications = applications-kept; right = right; retired = refl;
-}
-  where
-    right : (l : ℕ) → l < 2 → All (λ (g : Delivery). g.to ≡ 0)
-        (delivered_by l (tx_own (puller moving_tx l)))
-    right zero less =
-        all_of_each (λ (g : Delivery). g.to ≡ 0)
-        (delivered_by 0 (tx_own (puller moving_tx 0))) (refl, (refl, tt))
-    right (suc zero) less =
-        all_of_each (λ (g : Delivery). g.to ≡ 0)
-        (delivered_by 1 (tx_own (puller moving_tx 1))) (refl, tt)
-    right (suc (suc l)) less = absurd (omega arith)
-
-hashes : FlowsHaveOneHash i
-hashes zero less = refl
-hashes (suc zero) less = refl
-hashes (suc (suc zero)) less = refl
-hashes (suc (suc (suc x))) less = absurd (omega arith)
-
-hints : (table : TableId)
-    → KeepsHints i moving_history (moving_seats table) rx_own rx_execution rx_seen
-hints table = record {
-  ended = ended table; meant = meant table; used = used table; marks = marks-kept table;
-}
-
-pub moving_run_exists : MovingRunExists
-moving_run_exists = record {
-  within = boards.within;
-  runs = λ table.
-      run_of i moving_history moving_rx moving_rx_order boards.rx-ends moving_tx
-      moving_tx_order boards.tx-ends boards.tries rx_execution tx_execution rx_seen tx_seen
-      (moving_seats table)
-      (record { hashes = hashes; arrived = refl; total = refl; cut = refl; start = refl })
-      boards.commands-kept received sent refl (hints table) table;
-  wanted = refl; moved = refl; port = refl;
-}
+  marks-kept =
+      record {
+        wire = wire-in-turn;
+        filters = filters-announced;
+        marks = marks-of-turns;
+        writes = writes-marked;
+        entries = entries-written;
+      }

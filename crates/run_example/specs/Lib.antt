@@ -1,2 +1,4 @@
+pub mod Plays
 pub mod Moves
+pub mod Plans
 pub mod MovingRun

@@ -27,8 +27,8 @@ use Rattle.hop_rule.specs.declared.step.BoardStep.{BoardStep}
 use Rattle.hop_rule.specs.declared.step.BoardStep.TheVariants.{Lane}
 use Rattle.hop_rule.specs.declared.step.LaneStep.TheVariants.{OutFreed}
 use Rattle.board_api.specs.Closings.Finals.{lists_of}
-use Rattle.run_example.specs.Moves as play
-use Rattle.run_example.specs.Moves.{Move, plays_rows, choice_for, drains, reads, resizes, plan_with}
+use Rattle.run_example.specs.Plays as play
+use Rattle.run_example.specs.Plays.{Move, plays_rows}
 use Rattle.plan_reader.specs.Settings.{IsWithin, PlanSettings}
 use Rattle.plan_reader.specs.declared.plan.QueuePlan.{QueuePlan}
 use Rattle.plan_reader.specs.declared.plan.Steps.TheVariants as steps
@@ -37,6 +37,8 @@ use Rattle.run_words.specs.Values.{filter_word, place_word}
 use Rattle.run_words.specs.declared.hint_word.HintWord.TheVariants as word
 use Rattle.run_words.specs.declared.values.TheConstants.{STEERED}
 use Rattle.steer_model.specs.Good.Inputs.{Input}
+use Rattle.run_example.specs.Moves.{choice_for, drains, reads, resizes}
+use Rattle.run_example.specs.Plans.{plan_with}
 use Rattle.run_coupling.specs.Coupling.Runs.{IsRun}
 
 -- ---- the input
@@ -56,16 +58,26 @@ other_queue = record { home = 1; mask = record { 0 = 0 }; flows = 0 }
 -- Two processors, these queues, two entries in the socket flow table and two filters. The one
 -- application runs on processor 1. Each transmit queue is for the replies of one receive queue.
 abbrev pub moving : PlanSettings
-moving = record {
-  cpus = 2;
-  queues = table_queue ∷ other_queue ∷ [];
-  key = replicate 40 0; kinds = 63; reta = replicate 128 0; sock = 2;
-  filters = 2; backlog = 1; start = 0; limited = record { 0 = 0 }; apps = 1 ∷ [];
-  tx = record { cpus = record { 0 = 0 }; queues = 1 }
-      ∷ record { cpus = record { 0 = 0 }; queues = 2 } ∷ [];
-  workers = 1; tries = 1; detach = [];
-  steps = steps.List (Give to_four ∷ []);
-}
+moving =
+    record {
+      cpus = 2;
+      queues = table_queue ∷ other_queue ∷ [];
+      key = replicate 40 0;
+      kinds = 63;
+      reta = replicate 128 0;
+      sock = 2;
+      filters = 2;
+      backlog = 1;
+      start = 0;
+      limited = record { 0 = 0 };
+      apps = 1 ∷ [];
+      tx = record { cpus = record { 0 = 0 }; queues = 1 }
+          ∷ record { cpus = record { 0 = 0 }; queues = 2 } ∷ [];
+      workers = 1;
+      tries = 1;
+      detach = [];
+      steps = steps.List (Give to_four ∷ []);
+    }
 
 -- A packet of the one flow, with the hash 2.
 abbrev pub of_the_flow : Packet
@@ -73,24 +85,37 @@ of_the_flow = record { flow = flow_shown Bare; hash = Some 2; len = 0; flow_numb
 
 -- The plan with these settings, and a capture of three packets.
 abbrev pub moving_input : IsWithin moving → Input
-moving_input within = record {
-  plan = plan_with moving within;
-  packets = of_the_flow ∷ of_the_flow ∷ of_the_flow ∷ [];
-  cut = None;
-}
+moving_input within =
+    record {
+      plan = plan_with moving within;
+      packets = of_the_flow ∷ of_the_flow ∷ of_the_flow ∷ [];
+      cut = None;
+    }
 
 -- ---- the boards: the worker has seat 0, the controller seat 1
 
 abbrev pub moving_rx : BoardSizes
 moving_rx = record {
-  lanes = 2; outs = 1; limit = 1; room = 3;
-  start = 0; limited = record { 0 = 0 }; settings = 1 ∷ 0 ∷ 2 ∷ 0 ∷ 2 ∷ 3 ∷ []; seats = 2;
+  lanes = 2;
+  outs = 1;
+  limit = 1;
+  room = 3;
+  start = 0;
+  limited = record { 0 = 0 };
+  settings = 1 ∷ 0 ∷ 2 ∷ 0 ∷ 2 ∷ 3 ∷ [];
+  seats = 2;
 }
 
 abbrev pub moving_tx : BoardSizes
 moving_tx = record {
-  lanes = 2; outs = 1; limit = MAX_HOP_ROOM; room = 3;
-  start = 0; limited = record { 0 = 0 }; settings = 0 ∷ 0 ∷ 1 ∷ 2 ∷ []; seats = 2;
+  lanes = 2;
+  outs = 1;
+  limit = MAX_HOP_ROOM;
+  room = 3;
+  start = 0;
+  limited = record { 0 = 0 };
+  settings = 0 ∷ 0 ∷ 1 ∷ 2 ∷ [];
+  seats = 2;
 }
 
 -- In a visit for the queue p the worker reads the settings and puts a packet to the lane l.
@@ -238,7 +263,14 @@ moving_seats table = seat_view table 0 wire_steps ∷ seat_view table 1 worker_s
 abbrev pub other_chosen : Chosen
 other_chosen = record {
   id = 2;
-  choice = record { class = None; want = None; head = None; tail = None; lane = 1; why = Plain };
+  choice = record {
+    class = None;
+    want = None;
+    head = None;
+    tail = None;
+    lane = 1;
+    why = Plain;
+  };
 }
 
 -- The choices of queue 0: the first of its class, and the first again after the resize.
@@ -257,7 +289,8 @@ its_write = record { entry = 0; cpu = 1 }
 
 abbrev pub moving_history : History
 moving_history = record {
-  total = 3; cut = None;
+  total = 3;
+  cut = None;
   arrivals = record { id = 0; queue = 0; filter = None; entry = Some 0 }
       ∷ record { id = 1; queue = 0; filter = None; entry = Some 0 }
       ∷ record { id = 2; queue = 1; filter = Some 1; entry = None } ∷ [];
@@ -271,7 +304,8 @@ moving_history = record {
   tx_lanes = (lists_of moving_tx moving_tx_order).lanes;
   port = list_at (lists_of moving_tx moving_tx_order).outs 0;
   writes = (its_write ∷ its_write ∷ its_write ∷ []) ∷ [];
-  commands = record { command = to_four; answer = Done } ∷ []; start = 0;
+  commands = record { command = to_four; answer = Done } ∷ [];
+  start = 0;
 }
 
 -- The settings are those of a plan, this is a run, packet 1 is the first of its class again and

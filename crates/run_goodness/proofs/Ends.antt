@@ -257,7 +257,9 @@ module _ (h : History) (rx : BoardSizes) (rx_own : ℕ → List BoardStep) (rx_l
         let e = puts-are-chosen tx tx_own applications h.tx_choices keeps.sent in
         let f = retired-below tx tx_own tx_lists tx_facts in
         record {
-          chosen = omega arith; sent = omega arith; replied = omega arith;
+          chosen = omega arith;
+          sent = omega arith;
+          replied = omega arith;
           received = λ done.
               (let g = sum_same (delivered_count rx rx_own) (retired_count rx rx_own) rx.lanes
               done in

@@ -46,12 +46,14 @@ module _ (about : BoardSizes) (order : List (StepBy BoardStep))
       λ l. elim (cases_lt l about.lanes) [
         | inl within ↦ ap (λ (y : LaneList). y.accepted) (lane_is about order l within)
         | inr past ↦ ap (λ (y : LaneList). y.accepted) (lane_past about order l past)
-            ∙ sym (none_accepted l past) ] in λ i l. each l i
+            ∙ sym (none_accepted l past)
+      ] in λ i l. each l i
 
   out_same : (o : ℕ) → list_at (lists_of about order).outs o ≡ out about order o
   out_same o = elim (cases_lt o about.outs) [
-        | inl within ↦ out_is about order o within
-        | inr past ↦ out_past about order o past ∙ sym (none_given o past) ]
+    | inl within ↦ out_is about order o within
+    | inr past ↦ out_past about order o past ∙ sym (none_given o past)
+  ]
 
   pub flows_in_order : FitSizes about → FlowsAreInOrder about (own_of order) (lists_of about order)
   flows_in_order fit t r steers meets p f =
@@ -60,7 +62,8 @@ module _ (about : BoardSizes) (order : List (StepBy BoardStep))
       subst (λ (z : List (List LaneDrop) × List ℕ).
       InOrder (came_by t r p f) (t.arrivals p) z.0 z.1) (λ i. (
         sym (drops-map (lane_list about order) (range_with_len 0 about.lanes)) i,
-        sym (out_same (r.to f)) i)) (delivers_in_order about order t r fit lawful steers here p f)
+        sym (out_same (r.to f)) i,
+      )) (delivers_in_order about order t r fit lawful steers here p f)
 
 pub flows_are_in_order : AtEachClosing FlowsAreInOrder
 flows_are_in_order =

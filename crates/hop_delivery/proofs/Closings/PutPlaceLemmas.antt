@@ -60,10 +60,15 @@ module _ (own : ℕ → List BoardStep) (t : Execution) (a : AreTurnsOf own t) w
       let made = said u.chosen.choice.lane l u.chosen.id id u.hash hash u.answer answer
       (some-is (turn_put u) (put_step l id hash answer) both) in
       record {
-        producer = p; index = i.0; turn = u;
+        producer = p;
+        index = i.0;
+        turn = u;
         is = ap (λ z. nth_step (steps_of p (t.turns z)) i.0) seat ∙ i.1;
-        same_id = ap (λ (m : PutMade). m.id) made; same_lane = ap (λ (m : PutMade). m.lane) made;
-        seat = seat; step = ap (λ n. (places q).put n) i.2 ∙ f.2; }
+        same_id = ap (λ (m : PutMade). m.id) made;
+        same_lane = ap (λ (m : PutMade). m.lane) made;
+        seat = seat;
+        step = ap (λ n. (places q).put n) i.2 ∙ f.2;
+      }
 
   once : PutsAreOnce own
   once p q j k l m id hash other answer reply does did =
@@ -81,7 +86,8 @@ module _ (own : ℕ → List BoardStep) (t : Execution) (a : AreTurnsOf own t) w
         seats,
         sym x.step
             ∙ ((λ i. (places (seats i)).put (moment_of (same.0 i) (t.turns (seats i)) (same.1 i)))
-            ∙ y.step))
+            ∙ y.step),
+      )
 
 pub turns_put_once : TurnsPutOnce
 turns_put_once = once
@@ -124,23 +130,25 @@ answers_are_places about own lists stand were once q k l id hash answer does =
     let made = said l l id id w.hash hash w.answer answer
     (some-is (put_step l id w.hash w.answer) (put_step l id hash answer) steps) in (
       ap (λ (x : LaneLists). length x.accepted) (sym found) ∙ w.count,
-      sym (λ i. lane_drop_cause (found i) ((made i).hash)) ∙ w.accepts)) in
+      sym (λ i. lane_drop_cause (found i) ((made i).hash)) ∙ w.accepts,
+    )) in
     subst (λ (r : Put). IsPutAt about.start (place_in id (accepted_left lists l)) (Some r))
     (sym s.answers)
     (by_cause (lane_drop_cause s.found hash) refl s.found other s.lane.start s.stands) where
-    by_cause : (cause : Option DropCause) {c : Option DropCause} → c ≡ cause → (found : LaneLists)
-        → ((n : ℕ) → slice_get (accepted_left lists l) n ≡ Some id
-        → (length found.accepted ≡ n) × (c ≡ None)) → found.start ≡ about.start
-        → IsFrontOf (put_by cause found id (bucket_of hash)) (lane_at lists.lanes l)
-        → IsPutAt about.start (place_in id (accepted_left lists l)) (Some (answer_by cause found))
-    by_cause None is found other start front = let n : ℕ = length found.accepted in (
-          n + 1,
-          place-first id n (accepted_left lists l) (ap (λ xs. slice_get xs n) front.accepted.1
-              ∙ at-end found.accepted id front.accepted.0) (λ m at. sym (other m at).0),
-          ap (λ z. number z (n + 1)) (sym start))
-    by_cause (Some cause) is found other start front =
-        none-of (place_in id (accepted_left lists l)) (λ n at.
-        none-some cause (sym (other (n - 1) (place-get id n (accepted_left lists l) at)).1 ∙ is))
+      by_cause : (cause : Option DropCause) {c : Option DropCause} → c ≡ cause → (found : LaneLists)
+          → ((n : ℕ) → slice_get (accepted_left lists l) n ≡ Some id
+          → (length found.accepted ≡ n) × (c ≡ None)) → found.start ≡ about.start
+          → IsFrontOf (put_by cause found id (bucket_of hash)) (lane_at lists.lanes l)
+          → IsPutAt about.start (place_in id (accepted_left lists l)) (Some (answer_by cause found))
+      by_cause None is found other start front = let n : ℕ = length found.accepted in (
+        n + 1,
+        place-first id n (accepted_left lists l) (ap (λ xs. slice_get xs n) front.accepted.1
+            ∙ at-end found.accepted id front.accepted.0) (λ m at. sym (other m at).0),
+        ap (λ z. number z (n + 1)) (sym start),
+      )
+      by_cause (Some cause) is found other start front =
+          none-of (place_in id (accepted_left lists l)) (λ n at.
+          none-some cause (sym (other (n - 1) (place-get id n (accepted_left lists l) at)).1 ∙ is))
 
 -- what two steps that are one step say: the lane, the hash, and what was found
 module _ (own : ℕ → List BoardStep) (once : PutsAreOnce own) (p q j k l m id : ℕ)
@@ -182,7 +190,8 @@ packets_stand about own lists were fell t a =
                 w.found v.found w.does v.does w.finds v.finds,
             sym w.count ∙ (ap (λ (x : LaneLists). length x.accepted)
                 (same_found own once w.seat v.seat w.step v.step l m id w.hash v.hash w.answer
-                v.answer w.found v.found w.does v.does w.finds v.finds) ∙ v.count));
+                v.answer w.found v.found w.does v.does w.finds v.finds) ∙ v.count),
+          );
       dropped_once = λ l m i j d e at there same.
           let w = fell l i d at in
           let v = fell m j e there in
@@ -192,7 +201,8 @@ packets_stand about own lists were fell t a =
                 w.found v.found w.does did w.finds v.finds,
             sym w.count ∙ (ap (λ (x : LaneLists). length x.drops)
                 (same_found own once w.seat v.seat w.step v.step l m d.id w.hash v.hash w.answer
-                v.answer w.found v.found w.does did w.finds v.finds) ∙ v.count));
+                v.answer w.found v.found w.does did w.finds v.finds) ∙ v.count),
+          );
       apart = λ l m i j d at there.
           let w = were l i d.id at in
           let v = fell m j d there in
@@ -200,12 +210,18 @@ packets_stand about own lists were fell t a =
           v.answer w.found v.found w.does v.does w.finds v.finds in
           let h = same_hash own once w.seat v.seat w.step v.step l m d.id w.hash v.hash w.answer
           v.answer w.found v.found w.does v.does w.finds v.finds in
-          none-some d.cause (sym w.accepts ∙ ((λ k. lane_drop_cause (f k) (h k)) ∙ v.cause)); }
+          none-some d.cause (sym w.accepts ∙ ((λ k. lane_drop_cause (f k) (h k)) ∙ v.cause));
+    }
   where
     has_turn : (q k l id : ℕ) (hash : Option ℕ) (answer : Put)
         → Has (own q) k (put_step l id hash answer) → HasTurn t l id
     has_turn q k l id hash answer does =
         let u = turn_of own t a q k l id hash answer does in
         record {
-          producer = u.producer; index = u.index; turn = u.turn; is = u.is;
-          same_id = u.same_id; same_lane = u.same_lane; }
+          producer = u.producer;
+          index = u.index;
+          turn = u.turn;
+          is = u.is;
+          same_id = u.same_id;
+          same_lane = u.same_lane;
+        }

@@ -54,66 +54,67 @@ module _ (about : BoardSizes) (own : ℕ → List BoardStep) (lists : BoardLists
     (p i : ℕ) (explained : Explained (own (t.seat p)) (t.turns (t.seat p)))
     (sees : (j : ℕ) (v : Turn) → j ≤ i → nth_step (turns_of t p) j ≡ Some v
     → HasSeen (own (t.seat p)) q p v (seen j)) where
-    abbrev steering : Steering
-    steering = receive_steering q
+  abbrev steering : Steering
+  steering = receive_steering q
 
-    abbrev accepted : ℕ → List ℕ
-    accepted = accepted_left lists
+  abbrev accepted : ℕ → List ℕ
+  accepted = accepted_left lists
 
-    abbrev visits_at : ℕ → ℕ → ℕ
-    visits_at j = settings_at about own accepted t steering p j
+  abbrev visits_at : ℕ → ℕ → ℕ
+  visits_at j = settings_at about own accepted t steering p j
 
-    -- the settings of the j-th visit are what its turn knows
-    word_same : (j word : ℕ) (v : Turn) → nth_step (turns_of t p) j ≡ Some v
-        → Knows (own (t.seat p)) v word (seen j word) → seen j word ≡ visits_at j word
-    word_same j word v at has = law t p j word (seen j word) v explained at has
-        ∙ ap (λ o. settings_of_visit about own (word_of o) word) (sym at)
+  -- the settings of the j-th visit are what its turn knows
+  word_same : (j word : ℕ) (v : Turn) → nth_step (turns_of t p) j ≡ Some v
+      → Knows (own (t.seat p)) v word (seen j word) → seen j word ≡ visits_at j word
+  word_same j word v at has = law t p j word (seen j word) v explained at has
+      ∙ ap (λ o. settings_of_visit about own (word_of o) word) (sym at)
 
-    module _ (u : Turn) (at : nth_step (turns_of t p) i ≡ Some u) where
-      turn_at : (j : ℕ) → j ≤ i → (v : Turn) × (nth_step (turns_of t p) j ≡ Some v)
-      turn_at j le =
-          let inside = nth-inside (turns_of t p) i u at in nth-some (turns_of t p) j (omega arith)
+  module _ (u : Turn) (at : nth_step (turns_of t p) i ≡ Some u) where
+    turn_at : (j : ℕ) → j ≤ i → (v : Turn) × (nth_step (turns_of t p) j ≡ Some v)
+    turn_at j le =
+        let inside = nth-inside (turns_of t p) i u at in nth-some (turns_of t p) j (omega arith)
 
-      shapes : (j : ℕ) → j ≤ i → steering.shape (seen j) p ≡ steering.shape (visits_at j) p
-      shapes j le =
-          let v = turn_at j le in
-          let h = sees j v.0 le v.1 in
-          shape_same q p (seen j) (visits_at j) (word_same j (mask_word q p) v.0 v.1 h.mask)
-          (word_same j (flows_word q p) v.0 v.1 h.flows)
-          (word_same j (online_word q) v.0 v.1 h.online)
+    shapes : (j : ℕ) → j ≤ i → steering.shape (seen j) p ≡ steering.shape (visits_at j) p
+    shapes j le =
+        let v = turn_at j le in
+        let h = sees j v.0 le v.1 in
+        shape_same q p (seen j) (visits_at j) (word_same j (mask_word q p) v.0 v.1 h.mask)
+        (word_same j (flows_word q p) v.0 v.1 h.flows)
+        (word_same j (online_word q) v.0 v.1 h.online)
 
-      pub by_reads : IsBySeen about accepted t steering seen p i u
-          → IsByRule about own accepted t steering p i u
-      by_reads b =
-          let h = sees i u (omega arith) at in
-          let masks = word_same i (mask_word q p) u at h.mask in
-          let flows = word_same i (flows_word q p) u at h.flows in
-          let onlines = word_same i (online_word q) u at h.online in
-          let f : ℕ = steering.flow u.chosen.id in
-          let want : Option ℕ = u.chosen.choice.want in
-          let since : since_resize (λ j. steering.shape (seen j) p) i
-          ≡ since_resize (λ j. steering.shape (visits_at j) p) i =
-          since-same (λ j. steering.shape (seen j) p) (λ j. steering.shape (visits_at j) p) i
-          shapes in
-          let class : steering.class (steering.shape (seen i) p) f
-          ≡ steering.class (steering.shape (visits_at i) p) f =
-          ap (λ x. steering.class x f) (shapes i (omega arith)) in
-          let goal : goal_of steering (seen i) p f (steering.class (steering.shape (seen i) p) f)
-          want ≡ goal_of steering (visits_at i) p f
-          (steering.class (steering.shape (visits_at i) p) f) want =
-          ap (λ c. goal_of steering (seen i) p f c want) class
-          ∙ goal_same q p (seen i) (visits_at i) masks flows onlines f
-          (steering.class (steering.shape (visits_at i) p) f) want in
-          let on = online_same q p (seen i) (visits_at i) masks flows onlines in
-          let cs : List Chosen = take i (t.choices p) in
-          record {
-            head = b.head;
-            rule = b.rule ∙ (λ k. migrate (class k) want (goal k)
-                (entry about.start accepted (drop (since k) cs)) (λ _. b.head) (on k));
-            loaded = λ c l of_c lane seen_head. (
-                b.loaded c l (class ∙ of_c)
-                (ap (λ n. current_lane (of_class c (drop n cs))) since ∙ lane) seen_head);
-            goal_online = sym (λ k. on k (goal k)) ∙ b.goal_online; }
+    pub by_reads : IsBySeen about accepted t steering seen p i u
+        → IsByRule about own accepted t steering p i u
+    by_reads b =
+        let h = sees i u (omega arith) at in
+        let masks = word_same i (mask_word q p) u at h.mask in
+        let flows = word_same i (flows_word q p) u at h.flows in
+        let onlines = word_same i (online_word q) u at h.online in
+        let f : ℕ = steering.flow u.chosen.id in
+        let want : Option ℕ = u.chosen.choice.want in
+        let since : since_resize (λ j. steering.shape (seen j) p) i
+        ≡ since_resize (λ j. steering.shape (visits_at j) p) i =
+        since-same (λ j. steering.shape (seen j) p) (λ j. steering.shape (visits_at j) p) i
+        shapes in
+        let class : steering.class (steering.shape (seen i) p) f
+        ≡ steering.class (steering.shape (visits_at i) p) f =
+        ap (λ x. steering.class x f) (shapes i (omega arith)) in
+        let goal : goal_of steering (seen i) p f (steering.class (steering.shape (seen i) p) f)
+        want ≡ goal_of steering (visits_at i) p f
+        (steering.class (steering.shape (visits_at i) p) f) want =
+        ap (λ c. goal_of steering (seen i) p f c want) class
+        ∙ goal_same q p (seen i) (visits_at i) masks flows onlines f
+        (steering.class (steering.shape (visits_at i) p) f) want in
+        let on = online_same q p (seen i) (visits_at i) masks flows onlines in
+        let cs : List Chosen = take i (t.choices p) in
+        record {
+          head = b.head;
+          rule = b.rule ∙ (λ k. migrate (class k) want (goal k)
+              (entry about.start accepted (drop (since k) cs)) (λ _. b.head) (on k));
+          loaded = λ c l of_c lane seen_head. (
+              b.loaded c l (class ∙ of_c)
+              (ap (λ n. current_lane (of_class c (drop n cs))) since ∙ lane) seen_head);
+          goal_online = sym (λ k. on k (goal k)) ∙ b.goal_online;
+        }
 
 pub rules_by_reads : (about : BoardSizes) (own : ℕ → List BoardStep) (lists : BoardLists)
     → TurnsKnowSettings about own lists → RulesAreByReads about own lists
@@ -148,5 +149,5 @@ picks_by_reads about own lists law t p i count u s explained at knows rxq cpu ha
     (λ tx less. ap (λ w. has (mask w) cpu) (same tx (omega arith))) in
     λ j. at_hash (first_filled (by_queue j) (by_cpu j) (those_below count (λ tx. true)))
     (unwrap_or hash 0) where
-    same : (word : ℕ) → word < 2 * count → s word ≡ settings_of_visit about own u.word word
-    same word less = law t p i word (s word) u explained at (knows word less)
+      same : (word : ℕ) → word < 2 * count → s word ≡ settings_of_visit about own u.word word
+      same word less = law t p i word (s word) u explained at (knows word less)

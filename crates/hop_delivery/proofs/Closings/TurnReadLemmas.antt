@@ -33,9 +33,9 @@ quiet-back front back d none all =
     ap (λ o. cons_option o (visits_of back)) none in
     no-more (visits_of front) (visits_of back)
     (ap (λ gs. visits_of front ++ gs) (sym here) ∙ (sym parts ∙ all)) where
-    no-more : {X : Type 0} (xs ys : List X) → xs ++ ys ≡ [] → ys ≡ []
-    no-more [] ys e = e
-    no-more (x ∷ xs) ys e = let n = ap length e in absurd (omega arith)
+      no-more : {X : Type 0} (xs ys : List X) → xs ++ ys ≡ [] → ys ≡ []
+      no-more [] ys e = e
+      no-more (x ∷ xs) ys e = let n = ap length e in absurd (omega arith)
 
 module _ (about : BoardSizes) (own : ℕ → List BoardStep) (lists : BoardLists)
     (law : ReadsAreSettings about own lists) (q word value : ℕ) where
@@ -61,17 +61,17 @@ module _ (about : BoardSizes) (own : ℕ → List BoardStep) (lists : BoardLists
       law.in_visit q k word value does (ap (λ ds. visit (gate_steps ds)) before ∙ stays.place)
       ∙ ap (λ n. own_settings about (opened n (gate_steps (own (closer about)))) word)
       (ap (λ ds. visit_number (gate_steps ds)) before ∙ stays.number) where
-      joined : (a b : List BoardStep) → u.early ≡ a ++ reading ∷ b
-          → newer ++ visit_with u late older ≡ (newer ++ Gate Left ∷ (late ++ (turn_put u ∷ a)))
-          ++ reading ∷ (b ++ Gate (Entered u.word) ∷ older)
-      joined a b e =
-          let begun : List BoardStep = Gate (Entered u.word) ∷ older in
-          let rest : List BoardStep = reading ∷ (b ++ begun) in
-          let late_part : List BoardStep = late ++ (turn_put u ∷ a) in
-          ap (λ z. newer ++ Gate Left ∷ (late ++ (turn_put u ∷ z)))
-          (ap (λ z. z ++ begun) e ∙ append_assoc a (reading ∷ b) begun)
-          ∙ sym (append_assoc newer (Gate Left ∷ late_part) rest
-          ∙ ap (λ z. newer ++ Gate Left ∷ z) (append_assoc late (turn_put u ∷ a) rest))
+        joined : (a b : List BoardStep) → u.early ≡ a ++ reading ∷ b
+            → newer ++ visit_with u late older ≡ (newer ++ Gate Left ∷ (late ++ (turn_put u ∷ a)))
+            ++ reading ∷ (b ++ Gate (Entered u.word) ∷ older)
+        joined a b e =
+            let begun : List BoardStep = Gate (Entered u.word) ∷ older in
+            let rest : List BoardStep = reading ∷ (b ++ begun) in
+            let late_part : List BoardStep = late ++ (turn_put u ∷ a) in
+            ap (λ z. newer ++ Gate Left ∷ (late ++ (turn_put u ∷ z)))
+            (ap (λ z. z ++ begun) e ∙ append_assoc a (reading ∷ b) begun)
+            ∙ sym (append_assoc newer (Gate Left ∷ late_part) rest
+            ∙ ap (λ z. newer ++ Gate Left ∷ z) (append_assoc late (turn_put u ∷ a) rest))
 
   -- what comes before a turn's visit is at the end of the list
   visit-split : (u : Turn) (late older : List BoardStep)

@@ -208,11 +208,12 @@ module _ (about : BoardSizes) (order : List (StepBy BoardStep)) (lawful : IsLawf
   pub put_before : (p i j : ℕ) → i < j → j < a.placed p → a.put p i < a.entered p j
   put_before p i zero l k = absurd (omega arith)
   put_before p i (suc j) l k = elim (cases_eq i j) [
-        | inl e ↦ subst (λ (z : ℕ). a.put p z < a.entered p (suc j)) (sym e) (good.in_order p j k)
-        | inr ne ↦ (
-            let b = put_before p i j (omega arith) (omega arith) in
-            let v = (good.visits p j (omega arith)).after in
-            let d = good.in_order p j k in omega arith) ]
+    | inl e ↦ subst (λ (z : ℕ). a.put p z < a.entered p (suc j)) (sym e) (good.in_order p j k)
+    | inr ne ↦ (
+        let b = put_before p i j (omega arith) (omega arith) in
+        let v = (good.visits p j (omega arith)).after in
+        let d = good.in_order p j k in omega arith)
+  ]
 
   pub puts_rise : (p i j : ℕ) → i < j → j < a.placed p → a.put p i < a.put p j
   puts_rise p i j l k = let b = put_before p i j l k in let v = (good.visits p j k).after in
@@ -239,8 +240,13 @@ module _ (about : BoardSizes) (order : List (StepBy BoardStep)) (lawful : IsLawf
       let same = same_put about order u (a.seat b.0) q (lane_chosen a b.0 b.1) l (c b.0 b.1).id id
       v.hash hash v.answer answer mine is in
       record {
-        producer = b.0; index = b.1; placed = b.2; moment = b.3;
-        same_id = same.1; same_lane = same.0; }
+        producer = b.0;
+        index = b.1;
+        placed = b.2;
+        moment = b.3;
+        same_id = same.1;
+        same_lane = same.0;
+      }
 
   -- two choices of one packet are one
   pub once : (p q i j : ℕ) → i < a.placed p → j < a.placed q → (c p i).id ≡ (c q j).id → (p ≡ q)
@@ -255,7 +261,8 @@ module _ (about : BoardSizes) (order : List (StepBy BoardStep)) (lawful : IsLawf
       let b = put_is u q l (c p i).id hash answer is in
       let same = once b.producer p b.index i b.placed ip b.same_id in (
         (λ k. a.put (sym same.0 k) (sym same.1 k)) ∙ b.moment,
-        (λ k. lane_chosen a (sym same.0 k) (sym same.1 k)) ∙ b.same_lane)
+        (λ k. lane_chosen a (sym same.0 k) (sym same.1 k)) ∙ b.same_lane,
+      )
 
   -- ---- accepted packets
 
@@ -283,11 +290,14 @@ module _ (about : BoardSizes) (order : List (StepBy BoardStep)) (lawful : IsLawf
       let here : found_at p i ≡ length (lane_then about order u.moment l).accepted =
       ap (λ z. length (lane_then about order z l).accepted) own in
       record {
-        seat = u.seat; hash = u.hash; answer = u.answer;
+        seat = u.seat;
+        hash = u.hash;
+        answer = u.answer;
         is = subst (λ (z : ℕ). IsPut about order z u.seat l (c p i).id u.hash u.answer)
             (sym own) u.is;
         cause = ap (λ (z : ℕ). lane_drop_cause (lane_then about order z l) u.hash) own ∙ u.cause;
-        found = omega arith; }
+        found = omega arith;
+      }
 
   pub put_at : (p i q : ℕ) (hash : Option ℕ) (answer : Put) → i < a.placed p → IsPut about order
       (a.put p i) q (lane_chosen a p i) (c p i).id hash answer
@@ -325,7 +335,6 @@ module _ (about : BoardSizes) (order : List (StepBy BoardStep)) (lawful : IsLawf
       let b' : n ≤ found_at p j =
       subst (λ (z : ℕ). n ≤ length (lane_then about order (a.put p j) z).accepted) same b in
       omega arith
-
 
 -- ---- steps of two kinds are two
 
@@ -381,7 +390,10 @@ module _ (about : BoardSizes) (order : List (StepBy BoardStep)) (fit : FitSizes 
                 (sym e) shuts)).1
             | inr ne ↦ elim (cases_lt s u) [
               | inl l ↦ absurd (clash s from (omega arith) less (omega arith))
-              | inr le ↦ absurd (clash u v.after (omega arith) (omega arith) le) ] ] ]
+              | inr le ↦ absurd (clash u v.after (omega arith) (omega arith) le)
+            ]
+          ]
+        ]
 
     -- Where a test of settings holds at the visit k and not at a later one, and each change by
     -- which
@@ -420,7 +432,8 @@ module _ (about : BoardSizes) (order : List (StepBy BoardStep)) (fit : FitSizes 
         let earlier : a.put p i ≤ a.put p k = elim (cases_eq i k) [
           | inl e ↦ (let z : a.put p i ≡ a.put p k = ap (a.put p) e in omega arith)
           | inr ne ↦ (let z = puts_rise about order lawful a r good p i k (omega arith)
-              (omega arith) in omega arith) ] in
+              (omega arith) in omega arith)
+        ] in
         let lies = counts about order lawful a r good p i n w.counted (omega arith) at
         (omega arith) in
         let all_gone = emptied about order fit lawful s l w in

@@ -56,7 +56,8 @@ module _ {A : Type 0} where
   nth-all P [] j x all at = none-some x at
   nth-all P (y ∷ ys) j x all at = elim (nth-first y ys j x at) [
     | inl old ↦ nth-all P ys j x (All-tail P y ys all) old
-    | inr new ↦ subst P new.0 (All-head P y ys all) ]
+    | inr new ↦ subst P new.0 (All-head P y ys all)
+  ]
 
   -- a list from its k-th member on has the same numbers
   nth-past : (xs : List A) (k j : ℕ) → j < length (past k xs) → nth_step xs j ≡ nth_step
@@ -83,7 +84,8 @@ nth-new (x ∷ xs) ys j d at = let n = length-append xs ys in elim (nth-first x 
       (Some x) (nth_step (xs ++ ys) (length ys + j)) (λ e. absurd (omega arith))
       ∙ nth-new xs ys j d old)
   | inr new ↦ (let k = new.1 in if_same (length (xs ++ ys)) (length ys + j) (Some x)
-      (nth_step (xs ++ ys) (length ys + j)) (omega arith) ∙ ap Some new.0) ]
+      (nth_step (xs ++ ys) (length ys + j)) (omega arith) ∙ ap Some new.0)
+]
 
 -- a list with an opening
 opened_has : (ds : List BoardStep) (j : ℕ) → nth_step ds j ≡ Some (Gate Opened) → 0 < gates.openings
@@ -92,27 +94,28 @@ opened_has [] j at = none-some (Gate Opened) at
 opened_has (d ∷ ds) j at = elim (nth-first d ds j (Gate Opened) at) [
   | inl old ↦ (let more = opened_has ds j old in by_step d more)
   | inr new ↦ subst (λ (x : BoardStep). 0 < gates.openings (gate_steps (x ∷ ds))) (sym new.0)
-      (omega arith) ] where
-    by_gate : (s : GateStep) → 0 < gates.openings (gate_steps ds) → 0 < gates.openings_after s
-        (gates.openings (gate_steps ds))
-    by_gate Opened more = omega arith
-    by_gate (Entered w) more = more
-    by_gate (Turned w) more = more
-    by_gate Left more = more
-    by_gate (Shut w) more = more
-    by_gate (NotShut w) more = more
-    by_gate (Set k v) more = more
-    by_gate (Read k v) more = more
+      (omega arith)
+] where
+  by_gate : (s : GateStep) → 0 < gates.openings (gate_steps ds) → 0 < gates.openings_after s
+      (gates.openings (gate_steps ds))
+  by_gate Opened more = omega arith
+  by_gate (Entered w) more = more
+  by_gate (Turned w) more = more
+  by_gate Left more = more
+  by_gate (Shut w) more = more
+  by_gate (NotShut w) more = more
+  by_gate (Set k v) more = more
+  by_gate (Read k v) more = more
 
-    by_step : (x : BoardStep) → 0 < gates.openings (gate_steps ds) → 0 < gates.openings
-        (gate_steps (x ∷ ds))
-    by_step (Gate s) more = by_gate s more
-    by_step (Lane s) more = more
-    by_step (Weighed l w) more = more
-    by_step (Counted l w) more = more
-    by_step (OutCounted l w) more = more
-    by_step (LaneOut k) more = more
-    by_step (LaneIn k) more = more
+  by_step : (x : BoardStep) → 0 < gates.openings (gate_steps ds) → 0 < gates.openings
+      (gate_steps (x ∷ ds))
+  by_step (Gate s) more = by_gate s more
+  by_step (Lane s) more = more
+  by_step (Weighed l w) more = more
+  by_step (Counted l w) more = more
+  by_step (OutCounted l w) more = more
+  by_step (LaneOut k) more = more
+  by_step (LaneIn k) more = more
 
 module _ (about : BoardSizes) (r : Steering) where
   finds_empty : (ds : List BoardStep) (k : ℕ) (d : BoardStep) → AllFindEmpty about r ds
@@ -207,12 +210,16 @@ module _ (about : BoardSizes) (order : List (StepBy BoardStep)) (k l w v : ℕ)
       elim (nth-split f.since since_shut j (Gate Opened) here) [
         | inl old ↦ (let i = nth-inside since_shut j (Gate Opened) old in absurd (omega arith))
         | inr new ↦ (let some = opened_has f.since new.0 new.1 in let none = f.stays in
-            absurd (omega arith)) ]
+            absurd (omega arith))
+      ]
 
   was_emptied : WasEmptied about order (moment_of C order k) l
   was_emptied = record {
-    shut = moment_of C order (length f.older); weighed = moment_of C order weighed_at;
-    counted = moment_of C order counted_at; word = f.word; head = f.head;
+    shut = moment_of C order (length f.older);
+    weighed = moment_of C order weighed_at;
+    counted = moment_of C order counted_at;
+    word = f.word;
+    head = f.head;
     tail = f.tail;
     after_shut = rise about order C (length f.older) weighed_at (Weighed l f.head) later.0
         weighed_did.1;
@@ -224,7 +231,8 @@ module _ (about : BoardSizes) (order : List (StepBy BoardStep)) (k l w v : ℕ)
     counts = at_moment C order counted_at (Counted l f.tail) counted_did.1;
     equal = f.equal;
     stays = λ m from to is. none_between about order C (length f.older) k m (Gate (Shut f.word))
-        (Gate (Set w v)) (Gate Opened) shut_did.1 did not_opened from to is; }
+        (Gate (Set w v)) (Gate Opened) shut_did.1 did not_opened from to is;
+  }
 
 -- ---- the account
 
@@ -253,8 +261,13 @@ module _ (about : BoardSizes) (order : List (StepBy BoardStep)) (t : Execution) 
 
   abbrev pub account : Account
   account = record {
-        arrivals = t.arrivals; choices = t.choices; placed = λ p. length (turns_of t p);
-        seat = t.seat; entered = entered_at; put = put_at; }
+    arrivals = t.arrivals;
+    choices = t.choices;
+    placed = λ p. length (turns_of t p);
+    seat = t.seat;
+    entered = entered_at;
+    put = put_at;
+  }
 
   module _ (p i : ℕ) (u : Turn) (at : nth_step (turns_of t p) i ≡ Some u) where
     abbrev q : ℕ
@@ -288,14 +301,18 @@ module _ (about : BoardSizes) (order : List (StepBy BoardStep)) (t : Execution) 
     has_visit : HasVisit about order account r p i
     unfolding entered_at put_at
     has_visit = record {
-      word = u.word; enters = enters_at; hash = u.hash; answer = u.answer;
+      word = u.word;
+      enters = enters_at;
+      hash = u.hash;
+      answer = u.answer;
       puts = subst (λ (c : Chosen). IsPut about order (put_at p i) q c.choice.lane c.id u.hash
           u.answer) (sym chosen_is) puts_at;
       after = rise about order q (places.entered (turn_at p i)) (places.put (turn_at p i))
           (turn_put u) visit.after visit.puts;
       stays = λ m from to is. none_between about order q (places.entered (turn_at p i))
           (places.put (turn_at p i)) m (Gate (Entered u.word)) (turn_put u) (Gate Left) visit.enters
-          visit.puts visit.stays from to is; }
+          visit.puts visit.stays from to is;
+    }
 
     settings_is : settings about (past (entered_at p i) order) ≡ executions.settings_at about own
         acc t r p i
@@ -309,9 +326,12 @@ module _ (about : BoardSizes) (order : List (StepBy BoardStep)) (t : Execution) 
     was_loaded l w number has shows = let e = visit.early (length u.early - suc has.0) (Weighed l w)
         (nth-member u.early has.0 (Weighed l w) has.1 ∙ ap Some has.2) in
         record {
-          moment = moment_of q order e.0; word = w;
+          moment = moment_of q order e.0;
+          word = w;
           before = rise about order q e.0 (places.put (turn_at p i)) (turn_put u) e.2 visit.puts;
-          weighs = at_moment q order e.0 (Weighed l w) e.3; shows = shows; }
+          weighs = at_moment q order e.0 (Weighed l w) e.3;
+          shows = shows;
+        }
 
   turn_of : (p i : ℕ) → i < length (turns_of t p) → (u : Turn)
       × (nth_step (turns_of t p) i ≡ Some u)
@@ -329,31 +349,33 @@ module _ (about : BoardSizes) (order : List (StepBy BoardStep)) (t : Execution) 
       (λ j le. let v = turn_of p j (omega arith) in ap (λ z. r.shape z p)
       (sym (settings_is p j v.0 v.1))) in
       let c = chosen_is p i u.0 u.1 in by_paths u.0 u.1 b (sym s) since (sym c) where
-      by_paths : (u : Turn) → nth_step (turns_of t p) i ≡ Some u
-          → (b : executions.IsByRule about own acc t r p i u) → executions.settings_at about own acc
-          t r p i ≡ settings about (past (entered_at p i) order)
-          → since_resize (executions.shape_at about own acc t r p) i ≡ since_resize
-          (λ j. r.shape (settings about (past (entered_at p j) order)) p) i
-          → u.chosen ≡ chosen account p i → IsRuled about order account r p i
-      by_paths u at b s n c = record {
-        head = b.head;
-        rule = subst (λ (z : (ℕ → ℕ) × (ℕ × Chosen)). z.1.1.choice
-            ≡ migrate (r.class (r.shape z.0 p) (r.flow z.1.1.id)) z.1.1.choice.want
-            (executions.goal_of r z.0 p (r.flow z.1.1.id)
-            (r.class (r.shape z.0 p) (r.flow z.1.1.id)) z.1.1.choice.want)
-            (entry about.start acc (drop z.1.0 (take i (t.choices p)))) (λ _. b.head)
-            (r.online z.0)) (λ j. (s j, (n j, c j))) b.rule;
-        loaded = λ k l class lane head. (
-            let same_class : executions.class_at about own acc t r p i u ≡ Some k =
-            (λ j. r.class (r.shape (s j) p) (r.flow (c j).id)) ∙ class in
-            let same_lane : current_lane (of_class k (executions.before about own acc t r p i)) ≡
-            Some
-            l = ap (λ m. current_lane (of_class k (drop m (take i (t.choices p))))) n ∙ lane in
-            let w = b.loaded k l same_class same_lane (ap (λ (z : Chosen). z.choice.head) c ∙ head)
-            in was_loaded p i u at l w.0 b.head w.1 w.2);
-        goal_online = subst (λ (z : (ℕ → ℕ) × Chosen). r.online z.0
-            (executions.goal_of r z.0 p (r.flow z.1.id) (r.class (r.shape z.0 p) (r.flow z.1.id))
-            z.1.choice.want) ≡ true) (λ j. (s j, c j)) b.goal_online; }
+        by_paths : (u : Turn) → nth_step (turns_of t p) i ≡ Some u
+            → (b : executions.IsByRule about own acc t r p i u)
+            → executions.settings_at about own acc t r p i ≡ settings about (past (entered_at p i) order)
+            → since_resize (executions.shape_at about own acc t r p) i ≡ since_resize
+            (λ j. r.shape (settings about (past (entered_at p j) order)) p) i
+            → u.chosen ≡ chosen account p i → IsRuled about order account r p i
+        by_paths u at b s n c = record {
+          head = b.head;
+          rule = subst (λ (z : (ℕ → ℕ) × (ℕ × Chosen)). z.1.1.choice
+              ≡ migrate (r.class (r.shape z.0 p) (r.flow z.1.1.id)) z.1.1.choice.want
+              (executions.goal_of r z.0 p (r.flow z.1.1.id)
+              (r.class (r.shape z.0 p) (r.flow z.1.1.id)) z.1.1.choice.want)
+              (entry about.start acc (drop z.1.0 (take i (t.choices p)))) (λ _. b.head)
+              (r.online z.0)) (λ j. (s j, (n j, c j))) b.rule;
+          loaded = λ k l class lane head. (
+              let same_class : executions.class_at about own acc t r p i u ≡ Some k =
+              (λ j. r.class (r.shape (s j) p) (r.flow (c j).id)) ∙ class in
+              let same_lane :
+              current_lane (of_class k (executions.before about own acc t r p i)) ≡ Some l =
+              ap (λ m. current_lane (of_class k (drop m (take i (t.choices p))))) n ∙ lane in
+              let w =
+              b.loaded k l same_class same_lane (ap (λ (z : Chosen). z.choice.head) c ∙ head)
+              in was_loaded p i u at l w.0 b.head w.1 w.2);
+          goal_online = subst (λ (z : (ℕ → ℕ) × Chosen). r.online z.0
+              (executions.goal_of r z.0 p (r.flow z.1.id) (r.class (r.shape z.0 p) (r.flow z.1.id))
+              z.1.choice.want) ≡ true) (λ j. (s j, c j)) b.goal_online;
+        }
 
   all_puts_are : (n q l id : ℕ) (hash : Option ℕ) (answer : Put) → IsPut about order n q l id hash
       answer → (p : ℕ) × (i : ℕ) × (i < length (turns_of t p)) × (put_at p i ≡ n)
@@ -370,11 +392,14 @@ module _ (about : BoardSizes) (order : List (StepBy BoardStep)) (t : Execution) 
       let inside : i.0 < length (turns_of t p) =
       subst (λ (z : ℕ). i.0 < length (steps_of p (t.turns z))) (sym seat)
       (nth-inside (steps_of p (t.turns q)) i.0 e.0.step i.1) in (
-        p, i.0, inside,
+        p,
+        i.0,
+        inside,
         (λ j. moment_of (seat j) order
             ((places_of (seat j)).put (moment_of p (t.turns (seat j)) i.0)))
             ∙ (ap (λ z. moment_of q order ((places_of q).put z)) i.2
-            ∙ (ap (moment_of q order) a.2 ∙ f.2)))
+            ∙ (ap (moment_of q order) a.2 ∙ f.2)),
+      )
 
   in_order_are : (p i : ℕ) → suc i < length (turns_of t p) → put_at p i < entered_at p (suc i)
   unfolding put_at entered_at
@@ -409,15 +434,19 @@ module _ (about : BoardSizes) (order : List (StepBy BoardStep)) (t : Execution) 
         good.once p q i j g.0 g.1 g.2);
     arrived = λ p i l. (let u = turn_of p i l in good.arrived p i u.0 u.1
         ∙ ap (λ (z : Chosen). Some z.id) (sym (chosen_is p i u.0 u.1)));
-    few = few_are; visits = λ p i l. (let u = turn_of p i l in has_visit p i u.0 u.1);
-    in_order = in_order_are; all_puts = all_puts_are;
+    few = few_are;
+    visits = λ p i l. (let u = turn_of p i l in has_visit p i u.0 u.1);
+    in_order = in_order_are;
+    all_puts = all_puts_are;
     given = λ n q o from id place is.
         (let f = from_moment q order n (Lane (Given o from id place)) is in nth-all (GoesRight r)
         (own q) f.0 (Lane (Given o from id place)) (good.given q) f.1);
-    by_rule = ruled; emptied = emptied_are; } where
-      few_are : (p : ℕ) → length (turns_of t p) ≤ length (t.choices p)
-      few_are p = by_count (length (turns_of t p)) refl where
-          by_count : (n : ℕ) → length (turns_of t p) ≡ n → n ≤ length (t.choices p)
-          by_count zero e = omega arith
-          by_count (suc n) e = let u = turn_of p n (omega arith) in let l = slice_get_within
-              (t.choices p) n u.0.chosen (good.chosen p n u.0 u.1) in omega arith
+    by_rule = ruled;
+    emptied = emptied_are;
+  } where
+    few_are : (p : ℕ) → length (turns_of t p) ≤ length (t.choices p)
+    few_are p = by_count (length (turns_of t p)) refl where
+      by_count : (n : ℕ) → length (turns_of t p) ≡ n → n ≤ length (t.choices p)
+      by_count zero e = omega arith
+      by_count (suc n) e = let u = turn_of p n (omega arith) in let l = slice_get_within
+          (t.choices p) n u.0.chosen (good.chosen p n u.0 u.1) in omega arith

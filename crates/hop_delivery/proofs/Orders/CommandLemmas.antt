@@ -42,19 +42,20 @@ module _ (q : Queues) (s : ℕ → ℕ) (cpu l : ℕ) (small : cpu < 32) where
         ∙ not-true (has (without_cpu old cpu) l) g.1 in by_test (has old l) (cpu == l) refl g.0 out)
     | inr came ↦ absurd (true≢false
         (sym (both (list_any (λ home. home == l) q.homes) (came_on q old (without_cpu old cpu))
-        came).1 ∙ none_of _ 0 32 none_came)) ] where
-      by_test : (a b : Bool) → (cpu == l) ≡ b → a ≡ true → (a && not b) ≡ false → (l == cpu) ≡ true
-      by_test true true is on out = eq-eqb l cpu (sym (eqb-true cpu l is))
-      by_test true false is on out = absurd (true≢false out)
-      by_test false b is on out = absurd (true≢false (sym on))
+        came).1 ∙ none_of _ 0 32 none_came))
+  ] where
+    by_test : (a b : Bool) → (cpu == l) ≡ b → a ≡ true → (a && not b) ≡ false → (l == cpu) ≡ true
+    by_test true true is on out = eq-eqb l cpu (sym (eqb-true cpu l is))
+    by_test true false is on out = absurd (true≢false out)
+    by_test false b is on out = absurd (true≢false (sym on))
 
-      off_or : (a b : Bool) → (not a && (a && b)) ≡ false
-      off_or true b = refl
-      off_or false b = refl
+    off_or : (a b : Bool) → (not a && (a && b)) ≡ false
+    off_or true b = refl
+    off_or false b = refl
 
-      none_came : (c : ℕ) → (not (has old c) && has (without_cpu old cpu) c) ≡ false
-      none_came c = ap (λ b. not (has old c) && b) (has-without_cpu old cpu c small)
-          ∙ off_or (has old c) (not (cpu == c))
+    none_came : (c : ℕ) → (not (has old c) && has (without_cpu old cpu) c) ≡ false
+    none_came c = ap (λ b. not (has old c) && b) (has-without_cpu old cpu c small)
+        ∙ off_or (has old c) (not (cpu == c))
 
   -- for a processor that comes online: the homes of the queues
   on_empty : empty_for_mask q old (with_cpu old cpu) l ≡ true → list_any (λ home. home == l) q.homes
@@ -65,7 +66,8 @@ module _ (q : Queues) (s : ℕ → ℕ) (cpu l : ℕ) (small : cpu < 32) where
         absurd (true≢false (sym (g.0) ∙ (or_parts (has old l) _ (sym (has-with_cpu old cpu l small)
         ∙ not-true (has (with_cpu old cpu) l) g.1)).0)))
     | inr came ↦ (both (list_any (λ home. home == l) q.homes) (came_on q old (with_cpu old cpu))
-        came).0 ]
+        came).0
+  ]
 
 module _ (q : Queues) (s : ℕ → ℕ) (cpus txs l : ℕ) (less : l < cpus) where
   abbrev Received : Command → SettingChange → Type 0

@@ -103,9 +103,13 @@ module _ (about : BoardSizes) (order : List (StepBy BoardStep)) (fit : FitSizes 
       let found : found_at about order lawful a r good u.producer u.index ≡ g.index =
       (λ j. length (lane_then about order (u.moment j) (u.same_lane j)).accepted) ∙ w.found in
       let whole : Delivered u.producer k x = record {
-        index = u.index; placed = u.placed; same = u.same_id; count = g.index;
+        index = u.index;
+        placed = u.placed;
+        same = u.same_id;
+        count = g.index;
         at = subst (λ (z : ℕ). At about order a r u.producer u.index (suc z)) found there;
-        nth_is = ap (λ z. nth_step (delivered_from z ls) g.index) u.same_lane ∙ g.at; } in
+        nth_is = ap (λ z. nth_step (delivered_from z ls) g.index) u.same_lane ∙ g.at;
+      } in
       subst (λ (q : ℕ). Delivered q k x) (sym mine.0) whole
 
   -- ---- dropped packets
@@ -134,7 +138,8 @@ module _ (about : BoardSizes) (order : List (StepBy BoardStep)) (fit : FitSizes 
         b.answer w.answer b_is w_is).2 in
         none-some m.1.cause (sym b.cause
         ∙ ((λ j. lane_drop_cause (lane_then about order (own.0 j) (own.1 j)) (hashes j))
-        ∙ w.cause))) ]
+        ∙ w.cause)))
+  ]
 
   -- a put that a lane dropped for a cause is among its drops
   put_fell : (n q l id : ℕ) (hash : Option ℕ) (answer : Put) (cause : DropCause)
@@ -144,8 +149,11 @@ module _ (about : BoardSizes) (order : List (StepBy BoardStep)) (fit : FitSizes 
       let stands = (puts_right about order lawful n q l id hash answer is).stands in
       let x = lane_then about order n l in
       let d : LaneDrop = record {
-        id = id; accepted = length x.accepted; pulled = x.pulled;
-        cause = cause; } in
+        id = id;
+        accepted = length x.accepted;
+        pulled = x.pulled;
+        cause = cause;
+      } in
       let here : (after_put x id hash).drops ≡ x.drops ++ d ∷ [] =
       ap (λ z. (put_by z x id (Rattle.steer_base.specs.Drops.bucket_of hash)).drops) caused in
       let at : slice_get (after_put x id hash).drops (length x.drops) ≡ Some d =
@@ -158,20 +166,22 @@ module _ (about : BoardSizes) (order : List (StepBy BoardStep)) (fit : FitSizes 
   accepted_or : (i : ℕ) → i < a.placed p → fell (c i).id ≡ false → (n : ℕ) × IsAt i (suc n)
   accepted_or i ip kept_ = let v = good.visits p i ip in by_cause v.hash v.answer v.puts
       (lane_drop_cause (lane_then about order (a.put p i) (lane_chosen a p i)) v.hash) refl where
-      by_cause : (hash : Option ℕ) (answer : Put) → IsPut about order (a.put p i) (a.seat p)
-          (lane_chosen a p i) (c i).id hash answer → (cause : Option DropCause) → lane_drop_cause
-          (lane_then about order (a.put p i) (lane_chosen a p i)) hash ≡ cause → (n : ℕ)
-          × IsAt i (suc n)
-      by_cause hash answer is None e = (
-        found_at about order lawful a r good p i,
-        put_at about order lawful a r good p i (a.seat p) hash answer ip is e)
-      by_cause hash answer is (Some cause) e =
-          let l : ℕ = lane_chosen a p i in
-          let there = put_fell (a.put p i) (a.seat p) l (c i).id hash answer cause is e in
-          let inside = in_range about order lawful a r good p i ip in
-          let all = range-any (λ (xs : List LaneDrop). list_any (λ (d : LaneDrop). d.id == (c i).id)
-          xs) (λ l. drops_at about order l) 0 about.lanes l (omega arith) (omega arith) there in
-          absurd (true≢false (sym all ∙ kept_))
+        by_cause : (hash : Option ℕ) (answer : Put) → IsPut about order (a.put p i) (a.seat p)
+            (lane_chosen a p i) (c i).id hash answer → (cause : Option DropCause) → lane_drop_cause
+            (lane_then about order (a.put p i) (lane_chosen a p i)) hash ≡ cause → (n : ℕ)
+            × IsAt i (suc n)
+        by_cause hash answer is None e = (
+          found_at about order lawful a r good p i,
+          put_at about order lawful a r good p i (a.seat p) hash answer ip is e,
+        )
+        by_cause hash answer is (Some cause) e =
+            let l : ℕ = lane_chosen a p i in
+            let there = put_fell (a.put p i) (a.seat p) l (c i).id hash answer cause is e in
+            let inside = in_range about order lawful a r good p i ip in
+            let all =
+            range-any (λ (xs : List LaneDrop). list_any (λ (d : LaneDrop). d.id == (c i).id) xs)
+            (λ l. drops_at about order l) 0 about.lanes l (omega arith) (omega arith) there in
+            absurd (true≢false (sym all ∙ kept_))
 
   -- ---- pairs
 
@@ -200,8 +210,10 @@ module _ (about : BoardSizes) (order : List (StepBy BoardStep)) (fit : FitSizes 
       × (slice_get (lanes.out d.to ls) (d.place - 1) ≡ Some d.id)) (delivered_from l ls)
       (stands about ls lawful_lanes l) n g there in
       let pos = s.0 in (
-        g.place - 1, omega arith,
-        ap (λ z. slice_get (lanes.out z ls) (g.place - 1)) (sym to_is) ∙ (s.1 ∙ ap Some id_is))
+        g.place - 1,
+        omega arith,
+        ap (λ z. slice_get (lanes.out z ls) (g.place - 1)) (sym to_is) ∙ (s.1 ∙ ap Some id_is),
+      )
 
   -- an earlier packet of the flow that was accepted stands in the out lane before a later one
   pair : (i j n m k : ℕ) → i < j → j < a.placed p → IsAt i (suc n) → IsAt j (suc m)
@@ -225,13 +237,16 @@ module _ (about : BoardSizes) (order : List (StepBy BoardStep)) (fit : FitSizes 
             let s = same_lane about (delivered_from (lane_chosen a p j) ls)
             (rises about ls lawful_lanes (lane_chosen a p j)) n m g (omega arith) there in
             in_out_lane i n k s.0 at flow (ap (λ z. nth_step (delivered_from z ls) n) same
-            ∙ s.1) s.2) ]
+            ∙ s.1) s.2)
+      ]
 
   -- ---- the law
 
   came-of : (i x : ℕ) → slice_get arrived i ≡ Some x → r.flow x ≡ f → came x ≡ true
-  came-of i x at flow = rw (any-member (λ y. y == x) arrived i x at (eq-eqb x x refl),
-      eq-eqb (r.flow x) f flow) refl
+  came-of i x at flow = rw (
+    any-member (λ y. y == x) arrived i x at (eq-eqb x x refl),
+    eq-eqb (r.flow x) f flow,
+  ) refl
 
   pub in_order : InOrder came arrived (drops about order) (out about order (r.to f))
   in_order = prefix_of_parts came kept arrived (out about order (r.to f))
@@ -249,7 +264,8 @@ module _ (about : BoardSizes) (order : List (StepBy BoardStep)) (fit : FitSizes 
       let d = delivered k x at came_ in (
         d.index,
         good.arrived p d.index d.placed ∙ ap Some d.same,
-        rw (came_, ap fell (sym d.same) ∙ not-fell d.index (suc d.count) d.placed d.at) refl))
+        rw (came_, ap fell (sym d.same) ∙ not-fell d.index (suc d.count) d.placed d.at) refl,
+      ))
       (λ i j k x y less at kept_ at' kept' given_.
       let came_x = (kept-is x kept_).0 in
       let d = delivered k y given_ (kept-is y kept').0 in

@@ -24,7 +24,8 @@ pub any-at : {A : Type 0} (test : A → Bool) (xs : List A) → list_any test xs
 any-at test [] e = absurd (true≢false (sym e))
 any-at test (x ∷ xs) e = elim (cases_Bool (test x)) [
   | inl y ↦ (0, x, refl, y)
-  | inr n ↦ (let t = any-at test xs (rw n at e) in (suc t.0, t.1, t.2, t.3)) ]
+  | inr n ↦ (let t = any-at test xs (rw n at e) in (suc t.0, t.1, t.2, t.3))
+]
 
 pub any-member : {A : Type 0} (test : A → Bool) (xs : List A) (i : ℕ) (x : A)
     → slice_get xs i ≡ Some x → test x ≡ true → list_any test xs ≡ true
@@ -39,14 +40,16 @@ any-range test g a zero e = absurd (true≢false (sym e))
 any-range test g a (suc n) e = elim (cases_Bool (test (g a))) [
   | inl y ↦ (a, omega arith, omega arith, y)
   | inr no_ ↦ (let t = any-range test g (a + 1) n (rw no_ at e) in let u = t.1 in let v =
-      t.2 in (t.0, omega arith, omega arith, t.3)) ]
+      t.2 in (t.0, omega arith, omega arith, t.3))
+]
 
 pub range-any : {X : Type 0} (test : X → Bool) (g : ℕ → X) (a n l : ℕ) → a ≤ l → l < a + n
     → test (g l) ≡ true → list_any test (map g (range_with_len a n)) ≡ true
 range-any test g a zero l from to e = absurd (omega arith)
 range-any test g a (suc n) l from to e = elim (cases_eq l a) [
   | inl is ↦ or_left (test (g a)) _ (ap (λ z. test (g z)) (sym is) ∙ e)
-  | inr ne ↦ or_right (test (g a)) _ (range-any test g (a + 1) n l (omega arith) (omega arith) e) ]
+  | inr ne ↦ or_right (test (g a)) _ (range-any test g (a + 1) n l (omega arith) (omega arith) e)
+]
 
 module _ (f : ℕ → Bool) where
   -- how many of the first j pass
@@ -58,25 +61,28 @@ module _ (f : ℕ → Bool) where
   filter-at [] j x at yes_ = none-some x at
   filter-at (y ∷ ys) zero x at yes_ = let e : f y ≡ true = ap f (some-is y x at) ∙ yes_ in rw e at
   filter-at (y ∷ ys) (suc j) x at yes_ = elim (cases_Bool (f y)) [
-        | inl e ↦ rw e (filter-at ys j x at yes_)
-        | inr e ↦ rw e (filter-at ys j x at yes_) ]
+    | inl e ↦ rw e (filter-at ys j x at yes_)
+    | inr e ↦ rw e (filter-at ys j x at yes_)
+  ]
 
   filter-from : (xs : List ℕ) (i x : ℕ) → slice_get (filter f xs) i ≡ Some x → (j : ℕ)
       × (slice_get xs j ≡ Some x) × (f x ≡ true) × (rank xs j ≡ i)
   filter-from [] i x at = none-some x at
   filter-from (y ∷ ys) zero x at = elim (cases_Bool (f y)) [
     | inl e ↦ (let a : Some y ≡ Some x = rw e at at in (0, a, ap f (sym (some-is y x a)) ∙ e, refl))
-    | inr e ↦ (let t = filter-from ys zero x (rw e at at) in (suc t.0, t.1, t.2, rw e t.3)) ]
+    | inr e ↦ (let t = filter-from ys zero x (rw e at at) in (suc t.0, t.1, t.2, rw e t.3))
+  ]
   filter-from (y ∷ ys) (suc i) x at = elim (cases_Bool (f y)) [
     | inl e ↦ (let t = filter-from ys i x (rw e at at) in (suc t.0, t.1, t.2, rw e (ap suc t.3)))
-    | inr e ↦ (let t = filter-from ys (suc i) x (rw e at at) in (suc t.0, t.1, t.2, rw e t.3)) ]
+    | inr e ↦ (let t = filter-from ys (suc i) x (rw e at at) in (suc t.0, t.1, t.2, rw e t.3))
+  ]
 
   rank-le : (xs : List ℕ) (i j : ℕ) → i ≤ j → rank xs i ≤ rank xs j
   rank-le [] i j le = let a : rank [] i ≡ 0 = none i in let b : rank [] j ≡ 0 = none j in
       omega arith where
-      none : (k : ℕ) → rank [] k ≡ 0
-      none zero = refl
-      none (suc k) = refl
+        none : (k : ℕ) → rank [] k ≡ 0
+        none zero = refl
+        none (suc k) = refl
   rank-le (x ∷ xs) zero j le = omega arith
   rank-le (x ∷ xs) (suc i) zero le = absurd (omega arith)
   rank-le (x ∷ xs) (suc i) (suc j) le = let t = rank-le xs i j (omega arith) in
@@ -101,7 +107,9 @@ module _ (f : ℕ → Bool) where
     | inl e ↦ e
     | inr ne ↦ elim (cases_lt i j) [
       | inl l ↦ (let t = rank-lt xs i j x l at yes_ in absurd (omega arith))
-      | inr g ↦ (let t = rank-lt xs j i y (omega arith) at' yes' in absurd (omega arith)) ] ]
+      | inr g ↦ (let t = rank-lt xs j i y (omega arith) at' yes' in absurd (omega arith))
+    ]
+  ]
 
 -- Those of a list that pass a test are a prefix of those of another that pass a second one.
 module _ (f g : ℕ → Bool) (all given : List ℕ)
@@ -112,44 +120,45 @@ module _ (f g : ℕ → Bool) (all given : List ℕ)
     (earlier : (i j k x y : ℕ) → i < j → slice_get all i ≡ Some x → g x ≡ true
     → slice_get all j ≡ Some y → g y ≡ true → slice_get given k ≡ Some y → (l : ℕ) × (l < k)
     × (slice_get given l ≡ Some x) × (f x ≡ true)) where
-    abbrev xs : List ℕ
-    xs = filter g all
+  abbrev xs : List ℕ
+  xs = filter g all
 
-    abbrev ys : List ℕ
-    ys = filter f given
+  abbrev ys : List ℕ
+  ys = filter f given
 
-    index-of : (zs : List ℕ) (i x : ℕ) → slice_get zs i ≡ Some x → (i < length zs)
-        × (slice_index zs i ≡ x)
-    index-of zs i x at = get-inside zs i x at
+  index-of : (zs : List ℕ) (i x : ℕ) → slice_get zs i ≡ Some x → (i < length zs)
+      × (slice_index zs i ≡ x)
+  index-of zs i x at = get-inside zs i x at
 
-    pairwise : Pairwise xs ys
-    pairwise = record {
-      once = λ i j il jl e. (
-          let a = filter-from g all i (slice_index xs i) (get-of xs i il) in
-          let b = filter-from g all j (slice_index xs i) (get-of xs j jl ∙ ap Some (sym e)) in
-          let k = once a.0 b.0 (slice_index xs i) a.1 b.1 in sym a.3 ∙ (ap (rank g all) k ∙ b.3));
-      once_there = λ i j il jl e. (
-          let a = filter-from f given i (slice_index ys i) (get-of ys i il) in
-          let b = filter-from f given j (slice_index ys i) (get-of ys j jl ∙ ap Some (sym e)) in
-          let k = once_there a.0 b.0 (slice_index ys i) a.2 a.1 b.1 in
-          sym a.3 ∙ (ap (rank f given) k ∙ b.3));
-      from = λ j jl. (
-          let b = filter-from f given j (slice_index ys j) (get-of ys j jl) in
-          let a = from b.0 (slice_index ys j) b.1 b.2 in
-          let h = index-of xs (rank g all a.0) (slice_index ys j)
-          (filter-at g all a.0 (slice_index ys j) a.1 a.2) in (rank g all a.0, h.0, h.1));
-      earlier = λ i k j ik kl jl e. (
-          let a = filter-from g all i (slice_index xs i) (get-of xs i (omega arith)) in
-          let c = filter-from g all k (slice_index xs k) (get-of xs k kl) in
-          let b = filter-from f given j (slice_index ys j) (get-of ys j jl) in
-          let ac : a.0 < c.0 = rank-back g all a.0 c.0 (let u = a.3 in let v = c.3 in omega arith)
-          in
-          let t = earlier a.0 c.0 b.0 (slice_index xs i) (slice_index xs k) ac a.1 a.2 c.1 c.2
-          (b.1 ∙ ap Some (sym e)) in
-          let h = index-of ys (rank f given t.0) (slice_index xs i)
-          (filter-at f given t.0 (slice_index xs i) t.2 t.3) in
-          let lt = rank-lt f given t.0 b.0 (slice_index xs i) t.1 t.2 t.3 in
-          (rank f given t.0, (let v = b.3 in omega arith), h.1)); }
+  pairwise : Pairwise xs ys
+  pairwise = record {
+    once = λ i j il jl e. (
+        let a = filter-from g all i (slice_index xs i) (get-of xs i il) in
+        let b = filter-from g all j (slice_index xs i) (get-of xs j jl ∙ ap Some (sym e)) in
+        let k = once a.0 b.0 (slice_index xs i) a.1 b.1 in sym a.3 ∙ (ap (rank g all) k ∙ b.3));
+    once_there = λ i j il jl e. (
+        let a = filter-from f given i (slice_index ys i) (get-of ys i il) in
+        let b = filter-from f given j (slice_index ys i) (get-of ys j jl ∙ ap Some (sym e)) in
+        let k = once_there a.0 b.0 (slice_index ys i) a.2 a.1 b.1 in
+        sym a.3 ∙ (ap (rank f given) k ∙ b.3));
+    from = λ j jl. (
+        let b = filter-from f given j (slice_index ys j) (get-of ys j jl) in
+        let a = from b.0 (slice_index ys j) b.1 b.2 in
+        let h = index-of xs (rank g all a.0) (slice_index ys j)
+        (filter-at g all a.0 (slice_index ys j) a.1 a.2) in (rank g all a.0, h.0, h.1));
+    earlier = λ i k j ik kl jl e. (
+        let a = filter-from g all i (slice_index xs i) (get-of xs i (omega arith)) in
+        let c = filter-from g all k (slice_index xs k) (get-of xs k kl) in
+        let b = filter-from f given j (slice_index ys j) (get-of ys j jl) in
+        let ac : a.0 < c.0 = rank-back g all a.0 c.0 (let u = a.3 in let v = c.3 in omega arith)
+        in
+        let t = earlier a.0 c.0 b.0 (slice_index xs i) (slice_index xs k) ac a.1 a.2 c.1 c.2
+        (b.1 ∙ ap Some (sym e)) in
+        let h = index-of ys (rank f given t.0) (slice_index xs i)
+        (filter-at f given t.0 (slice_index xs i) t.2 t.3) in
+        let lt = rank-lt f given t.0 b.0 (slice_index xs i) t.1 t.2 t.3 in
+        (rank f given t.0, (let v = b.3 in omega arith), h.1));
+  }
 
-    pub prefix_of_parts : IsPrefix ys xs
-    prefix_of_parts = prefix_from_pairs xs ys pairwise
+  pub prefix_of_parts : IsPrefix ys xs
+  prefix_of_parts = prefix_from_pairs xs ys pairwise

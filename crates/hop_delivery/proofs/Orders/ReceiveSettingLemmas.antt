@@ -18,7 +18,8 @@ any-in : (test : ℕ → Bool) (a n c : ℕ) → a ≤ c → c < a + n → test 
 any-in test a zero c from to e = absurd (omega arith)
 any-in test a (suc n) c from to e = elim (cases_eq c a) [
   | inl is ↦ or_left (test a) _ (ap test (sym is) ∙ e)
-  | inr ne ↦ or_right (test a) _ (any-in test (a + 1) n c (omega arith) (omega arith) e) ]
+  | inr ne ↦ or_right (test a) _ (any-in test (a + 1) n c (omega arith) (omega arith) e)
+]
 
 -- a processor of a mask is below 32
 has-few : (m : CpuMask) (c : ℕ) → has m c ≡ true → c < 32
@@ -32,17 +33,21 @@ moved : (cpu home : ℕ) (old new : CpuMask) → online_or old cpu home ≢ onli
 moved cpu home old new ne = elim (cases_Bool (has old cpu)) [
   | inl a ↦ elim (cases_Bool (has new cpu)) [
     | inl b ↦ absurd (ne (rw (a, b) refl))
-    | inr b ↦ inl (rw a refl, a, b) ]
+    | inr b ↦ inl (rw a refl, a, b)
+  ]
   | inr a ↦ elim (cases_Bool (has new cpu)) [
     | inl b ↦ inr (rw a refl, a, b)
-    | inr b ↦ absurd (ne (rw (a, b) refl)) ] ]
+    | inr b ↦ absurd (ne (rw (a, b) refl))
+  ]
+]
 
 -- one of two processors that is online
 either_online : (on : CpuMask) (cpu other : ℕ) → has on other ≡ true
     → has on (online_or on cpu other) ≡ true
 either_online on cpu other is = elim (cases_Bool (has on cpu)) [
   | inl e ↦ rw e e
-  | inr e ↦ rw e is ]
+  | inr e ↦ rw e is
+]
 
 module _ (q : Queues) where
   abbrev Q : ℕ
@@ -67,7 +72,8 @@ module _ (q : Queues) where
         ∙ or_left (has (online q s) l && not (has (mask v) l)) _
         (and_from (has (online q s) l) (not (has (mask v) l)) on (ap not new)))
     | inr ne ↦ ap (λ b. if b then empty_for_mask q (online q s) (mask v) l else true)
-        (ne_eqb w W ne) ]
+        (ne_eqb w W ne)
+  ]
 
   -- the choice of a queue, as the online mask changes
   by_mask : (s : ℕ → ℕ) (v p l : ℕ) (m : CpuMask) (hash : Option ℕ) → p < Q → rps_choice_of m hash
@@ -103,7 +109,9 @@ module _ (q : Queues) where
               (eq-eqb home l l_is))
               (any-in (λ c. not (has (online q s) c) && has (mask v) c) 0 32 cpu (omega arith)
               (has-few (mask v) cpu a.2)
-              (and_from (not (has (online q s) cpu)) (has (mask v) cpu) (ap not a.1) a.2)))) ]) ]
+              (and_from (not (has (online q s) cpu)) (has (mask v) cpu) (ap not a.1) a.2))))
+        ])
+  ]
 
   moves : (s : ℕ → ℕ) (w v p f : ℕ) → rps q s p f ≢ rps q (with_setting s w v) p f
       → must_be_empty q s w v (rps q s p f) ≡ true
@@ -130,7 +138,9 @@ module _ (q : Queues) where
           (mask (same_word s w v W e i)) (slice_index q.homes p)) in
           ap (λ b. if b then empty_for_mask q (online q s) (mask v) l else true) (eq-eqb w W e)
           ∙ by_mask s v p l (mask (s p)) (q.hash f) few (λ same. ne (old ∙ (same ∙ sym new)))
-          (sym old)) ] ]
+          (sym old))
+    ]
+  ]
 
   resizes : (s : ℕ → ℕ) (w v p l : ℕ) → (receive_steering q).shape s p ≢ (receive_steering q).shape
       (with_setting s w v) p → must_be_empty q s w v l ≡ true
@@ -143,12 +153,16 @@ module _ (q : Queues) where
       | inl in_ ↦ (let few : p < Q = ltb-true p Q in_ in
           absurd (ne (ap (λ b. if b then s (Q + p) else 0) in_
           ∙ (sym (other_word s w v (Q + p) (λ h. absurd (omega arith)))
-          ∙ sym (ap (λ b. if b then with_setting s w v (Q + p) else 0) in_))))) ] ]
+          ∙ sym (ap (λ b. if b then with_setting s w v (Q + p) else 0) in_)))))
+    ]
+  ]
 
   pub receive_steers : (lanes : ℕ) → IsSteering lanes (receive_steering q)
   receive_steers lanes = record {
-    off = λ s w v l less on gone. off s w v l on gone; moves = λ s w v p f ne. moves s w v p f ne;
-    resizes = λ s w v p l less ne. resizes s w v p l ne; }
+    off = λ s w v l less on gone. off s w v l on gone;
+    moves = λ s w v p f ne. moves s w v p f ne;
+    resizes = λ s w v p l less ne. resizes s w v p l ne;
+  }
 
   -- ---- goals
 
@@ -156,28 +170,28 @@ module _ (q : Queues) where
       → has on (rps_choice_of m hash on home) ≡ true
   choice_online m on None home is = is
   choice_online m on (Some h) home is = by_empty (is_empty (those_below 32 (has m))) where
-      cpu : ℕ
-      cpu = at_hash (those_below 32 (has m)) h
+    cpu : ℕ
+    cpu = at_hash (those_below 32 (has m)) h
 
-      by_empty : (b : Bool) → has on (if b then home else online_or on cpu home) ≡ true
-      by_empty true = is
-      by_empty false = either_online on cpu home is
+    by_empty : (b : Bool) → has on (if b then home else online_or on cpu home) ≡ true
+    by_empty true = is
+    by_empty false = either_online on cpu home is
 
   pub goals_online : (s : ℕ → ℕ) (p f : ℕ) (class want : Option ℕ) → p < Q → has (online q s)
       (slice_index q.homes p) ≡ true → has (online q s)
       (goal_of (receive_steering q) s p f class want) ≡ true
   goals_online s p f class want few home = by_class class want where
-      plain : has (online q s) (rps q s p f) ≡ true
-      plain = ap (λ b. has (online q s)
-          (if b then rps_choice_of (mask (s p)) (q.hash f) (online q s) (slice_index q.homes p) else
-          0)) (lt-ltb p Q few) ∙ choice_online (mask (s p)) (online q s) (q.hash f)
-          (slice_index q.homes p) home
+    plain : has (online q s) (rps q s p f) ≡ true
+    plain = ap (λ b. has (online q s)
+        (if b then rps_choice_of (mask (s p)) (q.hash f) (online q s) (slice_index q.homes p) else
+        0)) (lt-ltb p Q few) ∙ choice_online (mask (s p)) (online q s) (q.hash f)
+        (slice_index q.homes p) home
 
-      by_class : (class want : Option ℕ) → has (online q s)
-          (goal_of (receive_steering q) s p f class want) ≡ true
-      by_class None want = plain
-      by_class (Some k) None = plain
-      by_class (Some k) (Some cpu) = either_online (online q s) cpu (rps q s p f) plain
+    by_class : (class want : Option ℕ) → has (online q s)
+        (goal_of (receive_steering q) s p f class want) ≡ true
+    by_class None want = plain
+    by_class (Some k) None = plain
+    by_class (Some k) (Some cpu) = either_online (online q s) cpu (rps q s p f) plain
 
 pub goals_are_online : GoalsAreOnline
 goals_are_online q s p f class want few home = goals_online q s p f class want few home

@@ -4,5 +4,7 @@ use Rattle.hop_delivery.specs.Orders.TransmitSettings.{transmit_steering}
 
 pub transmit_steers : (flow : ℕ → ℕ) (lanes : ℕ) → IsSteering lanes (transmit_steering flow)
 transmit_steers flow lanes = record {
-  off = λ s w v l less on gone. absurd (true≢false gone); moves = λ s w v p f ne. absurd (ne refl);
-  resizes = λ s w v p l less ne. absurd (ne refl); }
+  off = λ s w v l less on gone. absurd (true≢false gone);
+  moves = λ s w v p f ne. absurd (ne refl);
+  resizes = λ s w v p l less ne. absurd (ne refl);
+}

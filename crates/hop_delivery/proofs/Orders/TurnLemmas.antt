@@ -19,17 +19,21 @@ module _ {A : Type 0} where
       → (nth_step ys k ≡ Some x) ⊎ ((j : ℕ) × (nth_step xs j ≡ Some x) × (k ≡ length ys + j))
   nth-split [] ys k x at = inl at
   nth-split (y ∷ xs) ys k x at = dite (ℕ_discrete (length (xs ++ ys)) k) (λ e. inr (
-        length xs,
-        nth-last y xs
-            ∙ (sym (if_same (length (xs ++ ys)) k (Some y) (nth_step (xs ++ ys) k) e) ∙ at),
-        (let n = length-append xs ys in omega arith))) (λ ne. elim (nth-split xs ys k x
+    length xs,
+    nth-last y xs
+        ∙ (sym (if_same (length (xs ++ ys)) k (Some y) (nth_step (xs ++ ys) k) e) ∙ at),
+    (let n = length-append xs ys in omega arith),
+  )) (λ ne. elim (nth-split xs ys k x
       (sym (if_other (length (xs ++ ys)) k (Some y) (nth_step (xs ++ ys) k) ne) ∙ at)) [
         | inl old ↦ inl old
         | inr new ↦ (let inside = nth-inside xs new.0 x new.1 in
             inr (
               new.0,
               if_other (length xs) new.0 (Some y) (nth_step xs new.0)
-                  (λ e. absurd (omega arith)) ∙ new.1, new.2)) ])
+                  (λ e. absurd (omega arith)) ∙ new.1,
+              new.2,
+            ))
+      ])
 
   -- a list of which a part is looked for has it where one of its members is of that part
   pub part_has : {B : Type 0} (f : A → Option B) (xs : List A) (j : ℕ) (x : A) (y : B)
@@ -38,11 +42,12 @@ module _ {A : Type 0} where
   part_has {B} f (z ∷ xs) j x y at is = elim (nth-first z xs j x at) [
     | inl old ↦ (let more = part_has f xs j x y old is in by_head (f z) more)
     | inr new ↦ subst (λ (o : Option B). 0 < length (cons_option o (filter_map f xs)))
-        (sym (ap f new.0 ∙ is)) (omega arith) ] where
-      by_head : (o : Option B) → 0 < length (filter_map f xs)
-          → 0 < length (cons_option o (filter_map f xs))
-      by_head None more = more
-      by_head (Some b) more = omega arith
+        (sym (ap f new.0 ∙ is)) (omega arith)
+  ] where
+    by_head : (o : Option B) → 0 < length (filter_map f xs)
+        → 0 < length (cons_option o (filter_map f xs))
+    by_head None more = more
+    by_head (Some b) more = omega arith
 
 -- ---- places
 
@@ -137,7 +142,8 @@ module _ (t : StepBy Turn) (ts : List (StepBy Turn)) (newer late older : List Bo
         (Some x) (nth_step (xs ++ ys) (length ys + j)) (λ e. absurd (omega arith))
         ∙ nth-new xs ys j d old)
     | inr new ↦ (let k = new.1 in if_same (length (xs ++ ys)) (length ys + j) (Some x)
-        (nth_step (xs ++ ys) (length ys + j)) (omega arith) ∙ ap Some new.0) ]
+        (nth_step (xs ++ ys) (length ys + j)) (omega arith) ∙ ap Some new.0)
+  ]
 
   abbrev entered : ℕ → ℕ
   entered j = if length ts == j then length older else p.entered j
@@ -153,19 +159,26 @@ module _ (t : StepBy Turn) (ts : List (StepBy Turn)) (newer late older : List Bo
     stays = λ k from to at.
         elim (nth-split early from_entry k (Gate Left) (sym (in_early k to) ∙ at)) [
           | inl old ↦ (let i = nth-inside from_entry k (Gate Left) old in absurd (omega arith))
-          | inr new ↦ visits_has early new.0 q_early.visits new.1 ];
+          | inr new ↦ visits_has early new.0 q_early.visits new.1
+        ];
     early = λ j d at. (
         let inside = nth-inside early j d at in (
-          length from_entry + j, omega arith, omega arith,
-          in_early (length from_entry + j) (omega arith) ∙ nth-new early from_entry j d at)); }
+          length from_entry + j,
+          omega arith,
+          omega arith,
+          in_early (length from_entry + j) (omega arith) ∙ nth-new early from_entry j d at,
+        ));
+  }
 
   earlier : (u : Turn) (e v : ℕ) → v < length older → VisitAt older u e v → VisitAt whole u e v
   earlier u e v l a = let lt = a.after in record {
-    enters = in_older e (omega arith) ∙ a.enters; puts = in_older v l ∙ a.puts;
+    enters = in_older e (omega arith) ∙ a.enters;
+    puts = in_older v l ∙ a.puts;
     after = a.after;
     stays = λ k from to at. a.stays k from to (sym (in_older k (omega arith)) ∙ at);
     early = λ j d at. (let b = a.early j d at in let to =
-        b.2 in (b.0, b.1, b.2, in_older b.0 (omega arith) ∙ b.3)); }
+        b.2 in (b.0, b.1, b.2, in_older b.0 (omega arith) ∙ b.3));
+  }
 
   visits_ : (j : ℕ) (u : StepBy Turn) → nth_step (t ∷ ts) j ≡ Some u → VisitAt whole u.step
       (entered j) (put j)
@@ -176,11 +189,14 @@ module _ (t : StepBy Turn) (ts : List (StepBy Turn)) (newer late older : List Bo
         same i,
         (
           sym (if_same (length ts) j (length older) (p.entered j) e) i,
-          sym (if_same (length ts) j (length to_put) (p.put j) e) i), )) this)
+          sym (if_same (length ts) j (length to_put) (p.put j) e) i,
+        ),
+      )) this)
       (λ ne. let at' = sym (if_other (length ts) j (Some t) (nth_step ts j) ne) ∙ at in
       subst (λ (z : ℕ × ℕ). VisitAt whole u.step z.0 z.1) (λ i. (
         sym (if_other (length ts) j (length older) (p.entered j) ne) i,
-        sym (if_other (length ts) j (length to_put) (p.put j) ne) i))
+        sym (if_other (length ts) j (length to_put) (p.put j) ne) i,
+      ))
       (earlier u.step (p.entered j) (p.put j) (p.within j (nth-inside ts j u at'))
       (p.visits j u at')))
 
@@ -211,28 +227,47 @@ module _ (t : StepBy Turn) (ts : List (StepBy Turn)) (newer late older : List Bo
             | inr c ↦ puts_has late c.0 l id hash answer q_late.puts c.1
             | inl c ↦ elim (nth-first (turn_put turn) to_put k d c) [
               | inr e ↦ (
-                length ts, omega arith,
-                if_same (length ts) (length ts) (length to_put) (p.put (length ts)) refl ∙ sym e.1)
+                length ts,
+                omega arith,
+                if_same (length ts) (length ts) (length to_put) (p.put (length ts)) refl ∙ sym e.1,
+              )
               | inl e ↦ elim (nth-split early from_entry k d e) [
                 | inr f ↦ puts_has early f.0 l id hash answer q_early.puts f.1
                 | inl f ↦ elim (nth-first (Gate (Entered turn.word)) older k d f) [
                   | inr g ↦ (let z = ap is_lane g.0 in absurd (omega arith))
                   | inl g ↦ (let o = p.all_puts k l id hash answer g in let inside = o.1 in (
-                        o.0, omega arith,
-                        if_other (length ts) o.0 (length to_put) (p.put o.0)
-                            (λ e. absurd (omega arith)) ∙ o.2)) ] ] ] ] ] ]
+                    o.0,
+                    omega arith,
+                    if_other (length ts) o.0 (length to_put) (p.put o.0)
+                        (λ e. absurd (omega arith)) ∙ o.2,
+                  ))
+                ]
+              ]
+            ]
+          ]
+        ]
+      ]
 
   places : Places whole (t ∷ ts)
   places = record {
-    entered = entered; put = put; visits = visits_; in_order = in_order_;
-    within = within_; all_puts = all_puts_; }
+    entered = entered;
+    put = put;
+    visits = visits_;
+    in_order = in_order_;
+    within = within_;
+    all_puts = all_puts_;
+  }
 
 pub turns_have_places : (ds : List BoardStep) (ts : List (StepBy Turn)) → Explained ds ts
     → Places ds ts
 turns_have_places ds [] e = record {
-  entered = λ j. 0; put = λ j. 0; visits = λ j t at. none-some t at;
-  in_order = λ j k l m. absurd (omega arith); within = λ j l. absurd (omega arith);
-  all_puts = λ k l id hash answer at. puts_has ds k l id hash answer e at; }
+  entered = λ j. 0;
+  put = λ j. 0;
+  visits = λ j t at. none-some t at;
+  in_order = λ j k l m. absurd (omega arith);
+  within = λ j l. absurd (omega arith);
+  all_puts = λ k l id hash answer at. puts_has ds k l id hash answer e at;
+}
 turns_have_places ds (t ∷ ts) (newer, late, older, is, no_puts, q_late, q_early, rest) =
     subst (λ (z : List BoardStep). Places z (t ∷ ts)) (sym is)
     (places t ts newer late older no_puts q_late q_early (turns_have_places older ts rest))
@@ -245,10 +280,15 @@ pub explained_more : (more ds : List BoardStep) (ts : List (StepBy Turn)) → pu
 explained_more more ds [] none e = filter_map-append put_in more ds
     ∙ (ap (λ xs. xs ++ puts_of ds) none ∙ e)
 explained_more more ds (t ∷ ts) none (newer, late, older, is, no_puts, q_late, q_early, rest) = (
-  more ++ newer, late, older,
+  more ++ newer,
+  late,
+  older,
   ap (λ xs. more ++ xs) is ∙ sym (append_assoc more newer (visit_with t.step late older)),
-  filter_map-append put_in more newer ∙ (ap (λ xs. xs ++ puts_of newer) none ∙ no_puts), q_late,
-  q_early, rest)
+  filter_map-append put_in more newer ∙ (ap (λ xs. xs ++ puts_of newer) none ∙ no_puts),
+  q_late,
+  q_early,
+  rest,
+)
 
 -- a visit with its put
 pub explained_turn : (t : StepBy Turn) (late ds : List BoardStep) (ts : List (StepBy Turn))

@@ -53,13 +53,15 @@ since-again : (size : ℕ → ℕ) (j k : ℕ) → since_resize size j ≤ k →
 unfolding since_resize
 since-again size zero k from to = let e : k ≡ 0 = omega arith in ap (since_resize size) e
 since-again size (suc j) k from to = elim (cases_eq k (suc j)) [
-      | inl e ↦ ap (since_resize size) e
-      | inr ne ↦ elim (cases_Bool (size j == size (suc j))) [
-        | inl e ↦ (
-            let below : since_resize size j ≤ k = rw e at from in
-            let t = since-again size j k below (omega arith) in rw e t)
-        | inr e ↦ (
-            let below : suc j ≤ k = rw e at from in absurd (omega arith)) ] ]
+  | inl e ↦ ap (since_resize size) e
+  | inr ne ↦ elim (cases_Bool (size j == size (suc j))) [
+    | inl e ↦ (
+        let below : since_resize size j ≤ k = rw e at from in
+        let t = since-again size j k below (omega arith) in rw e t)
+    | inr e ↦ (
+        let below : suc j ≤ k = rw e at from in absurd (omega arith))
+  ]
+]
 
 get_or-any : (xs : List Chosen) (k : ℕ) (d e : Chosen) → k < length xs
     → get_or xs k d ≡ get_or xs k e
@@ -140,21 +142,21 @@ module _ (about : BoardSizes) (order : List (StepBy BoardStep)) (fit : FitSizes 
   -- the class of a choice is that of its flow
   class_of : (i k : ℕ) → i < a.placed p → (c i).choice.class ≡ Some k → class i ≡ Some k
   class_of i k l is = by_class (class i) refl where
-      by_class : (x : Option ℕ) → class i ≡ x → class i ≡ Some k
-      by_class None e = Rattle.hop_rule.proofs.Lists.none-some k (sym (plain_class i l e) ∙ is)
-      by_class (Some m) e = e ∙ (sym (has_class i m l e) ∙ is)
+    by_class : (x : Option ℕ) → class i ≡ x → class i ≡ Some k
+    by_class None e = Rattle.hop_rule.proofs.Lists.none-some k (sym (plain_class i l e) ∙ is)
+    by_class (Some m) e = e ∙ (sym (has_class i m l e) ∙ is)
 
   -- a choice goes to a lane that is online
   lane_online : (i : ℕ) → i < a.placed p → online i (lane i) ≡ true
   lane_online i l = by_class (class i) refl where
-      by_class : (x : Option ℕ) → class i ≡ x → online i (lane i) ≡ true
-      by_class x e =
-          let b = good.by_rule p i l in
-          let goal : online i (goal_of r (settings_at about order a r p i) p
-          (flow_at about order a r p i) x (c i).choice.want) ≡ true =
-          subst (λ (z : Option ℕ). online i
-          (goal_of r (settings_at about order a r p i) p (flow_at about order a r p i) z
-          (c i).choice.want) ≡ true) e b.goal_online in by_kind x e b goal where
+    by_class : (x : Option ℕ) → class i ≡ x → online i (lane i) ≡ true
+    by_class x e =
+        let b = good.by_rule p i l in
+        let goal : online i (goal_of r (settings_at about order a r p i) p
+        (flow_at about order a r p i) x (c i).choice.want) ≡ true =
+        subst (λ (z : Option ℕ). online i
+        (goal_of r (settings_at about order a r p i) p (flow_at about order a r p i) z
+        (c i).choice.want) ≡ true) e b.goal_online in by_kind x e b goal where
           by_kind : (x : Option ℕ) → class i ≡ x → (b : IsRuled about order a r p i)
               → online i (goal_of r (settings_at about order a r p i) p
               (flow_at about order a r p i) x (c i).choice.want) ≡ true → online i (lane i) ≡ true
@@ -190,16 +192,21 @@ module _ (about : BoardSizes) (order : List (StepBy BoardStep)) (fit : FitSizes 
   at_choice : (i k : ℕ) → i < a.placed p → class i ≡ Some k → IsRuledAt about.start acc (gone i)
       (before about order a r p i) k (c i)
   at_choice i k l is = let b = good.by_rule p i l in record {
-        desired = desired i; online = online i; head = b.head; rule = rule_of i (Some k) l is b;
-        seen = λ m there looked. (
-            let w = b.loaded k m is there looked in
-            let value = (step_lawful about order w.moment (a.seat p) (Weighed m w.word) lawful
-            w.weighs).1.1 in
-            let before_put = w.before in (
-              retired about (past w.moment order) m,
-              sym w.shows ∙ ap (λ z. z % 2 ^ 32) value,
-              retired_later about order w.moment (a.put p i) m (omega arith)));
-        drained = λ m n d inside off at. drained_at i l m n d inside off at; }
+    desired = desired i;
+    online = online i;
+    head = b.head;
+    rule = rule_of i (Some k) l is b;
+    seen = λ m there looked. (
+        let w = b.loaded k m is there looked in
+        let value = (step_lawful about order w.moment (a.seat p) (Weighed m w.word) lawful
+        w.weighs).1.1 in
+        let before_put = w.before in (
+          retired about (past w.moment order) m,
+          sym w.shows ∙ ap (λ z. z % 2 ^ 32) value,
+          retired_later about order w.moment (a.put p i) m (omega arith),
+        ));
+    drained = λ m n d inside off at. drained_at i l m n d inside off at;
+  }
 
   -- ---- the choices of a producer since its last resize are a walk
 
@@ -235,12 +242,12 @@ module _ (about : BoardSizes) (order : List (StepBy BoardStep)) (fit : FitSizes 
         ∙ (ap (take i) (drop-take s (i + m) (a.choices p)) ∙ (take-less i m (drop s (a.choices p))
         ∙ (sym (drop-take s i (a.choices p)) ∙ ap (λ n. drop n (take (s + i) (a.choices p)))
         (sym again)))) where
-        take-less : (i m : ℕ) (xs : List Chosen) → take i (take (i + m) xs) ≡ take i xs
-        take-less zero m xs = refl
-        take-less (suc i) m [] = let e : suc i + m ≡ suc (i + m) = omega arith in
-            ap (λ n. take (suc i) (take {A = Chosen} n [])) e
-        take-less (suc i) m (x ∷ xs) = let e : suc i + m ≡ suc (i + m) = omega arith in
-            ap (λ n. take (suc i) (take n (x ∷ xs))) e ∙ ap (λ zs. x ∷ zs) (take-less i m xs)
+          take-less : (i m : ℕ) (xs : List Chosen) → take i (take (i + m) xs) ≡ take i xs
+          take-less zero m xs = refl
+          take-less (suc i) m [] = let e : suc i + m ≡ suc (i + m) = omega arith in
+              ap (λ n. take (suc i) (take {A = Chosen} n [])) e
+          take-less (suc i) m (x ∷ xs) = let e : suc i + m ≡ suc (i + m) = omega arith in
+              ap (λ n. take (suc i) (take n (x ∷ xs))) e ∙ ap (λ zs. x ∷ zs) (take-less i m xs)
 
     -- the retired counts at the put of a choice of the walk, and at the last one's from then on
     abbrev at_walk : ℕ → ℕ
@@ -286,14 +293,19 @@ module _ (about : BoardSizes) (order : List (StepBy BoardStep)) (fit : FitSizes 
         let is = class_of (s + i) k l mine in
         subst (λ (z : ℕ × (List Chosen × Chosen)). IsRuledAt about.start acc (gone z.0) z.1.0 k
         z.1.1) (λ v. (
-          sym (at_walk_is i (omega arith)) v, (sym (before_is i (omega arith)) v, sym x v),
+          sym (at_walk_is i (omega arith)) v,
+          (sym (before_is i (omega arith)) v, sym x v),
         )) (at_choice (s + i) k l is)
 
     is_walk : IsWalk about.start acc gone_at cs
     is_walk = record {
-      start_small = fit.start; few = accepted_fits;
-      few_retired = λ i l. retired_fits (a.put p (at_walk i)) l; rising = gone_rises;
-      in_order = in_order; ruled = ruled; }
+      start_small = fit.start;
+      few = accepted_fits;
+      few_retired = λ i l. retired_fits (a.put p (at_walk i)) l;
+      rising = gone_rises;
+      in_order = in_order;
+      ruled = ruled;
+    }
 
     -- of two choices of one class, the earlier packet was retired before the later put, or the
     -- lanes are one
@@ -314,7 +326,8 @@ module _ (about : BoardSizes) (order : List (StepBy BoardStep)) (fit : FitSizes 
           | inl passed_ ↦ inl (subst (λ (z : ℕ × Chosen). n ≤ gone z.0 z.1.choice.lane)
               (λ v. (last v, x v)) passed_)
           | inr same ↦ inr (ap (λ (z : Chosen). z.choice.lane) (sym x)
-              ∙ (same ∙ ap (λ (z : Chosen). z.choice.lane) y)) ]
+              ∙ (same ∙ ap (λ (z : Chosen). z.choice.lane) y))
+        ]
 
     walked_since : (i k n : ℕ) → since_resize size j ≤ i → i < j → IsAt i n → class i ≡ Some k
         → class j ≡ Some k → (n ≤ gone j (lane i)) ⊎ (lane i ≡ lane j)
@@ -345,7 +358,8 @@ module _ (about : BoardSizes) (order : List (StepBy BoardStep)) (fit : FitSizes 
             let is_a : r.plain z p f ≡ lane i = eqb-true (r.plain z p f) (lane i) yes_ in
             subst (λ (y : ℕ). r.affects z w v y ≡ true) is_a (steers.moves z w v p f
             (λ e. true≢false (sym (eq-eqb (r.plain (with_setting z w v) p f) (lane i)
-            (sym e ∙ is_a)) ∙ no_)))) at) ]
+            (sym e ∙ is_a)) ∙ no_)))) at)
+      ]
 
   pub passed : (i j n : ℕ) → i < j → j < a.placed p → IsAt i n
       → flow_at about order a r p i ≡ flow_at about order a r p j → Passed i j n
@@ -366,11 +380,13 @@ module _ (about : BoardSizes) (order : List (StepBy BoardStep)) (fit : FitSizes 
             let is_k : r.shape z p ≡ size k = eqb-true (r.shape z p) (size k) yes_ in
             steers.resizes z w v p (lane i) (in_range about order lawful a r good p i (omega arith))
             (λ e. true≢false (sym (eq-eqb (r.shape (with_setting z w v) p) (size k) (sym e ∙ is_k))
-            ∙ no_))) at in inl (up_to (suc k) gone_ kj)) ] where
-      up_to : (k : ℕ) → n ≤ gone k (lane i) → k ≤ j → n ≤ gone j (lane i)
-      up_to k gone_ le = elim (cases_eq k j) [
-        | inl e ↦ subst (λ (z : ℕ). n ≤ gone z (lane i)) e gone_
-        | inr ne ↦ (
-            let rise = puts_rise about order lawful a r good p k j (omega arith) l in
-            let up = retired_later about order (a.put p k) (a.put p j) (lane i) (omega arith) in
-            omega arith) ]
+            ∙ no_))) at in inl (up_to (suc k) gone_ kj))
+      ] where
+        up_to : (k : ℕ) → n ≤ gone k (lane i) → k ≤ j → n ≤ gone j (lane i)
+        up_to k gone_ le = elim (cases_eq k j) [
+          | inl e ↦ subst (λ (z : ℕ). n ≤ gone z (lane i)) e gone_
+          | inr ne ↦ (
+              let rise = puts_rise about order lawful a r good p k j (omega arith) l in
+              let up = retired_later about order (a.put p k) (a.put p j) (lane i) (omega arith) in
+              omega arith)
+        ]

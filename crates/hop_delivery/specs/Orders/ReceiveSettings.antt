@@ -69,10 +69,15 @@ module _ (q : Queues) where
   -- How a receive board steers.
   abbrev pub receive_steering : Steering
   receive_steering = record {
-        flow = q.flow; to = q.app; shape = λ s p. if nat_lt p queues then s (flows_word p) else 0;
-        class = λ shape f. class_of (shape % 2 ^ 32) (q.hash f); plain = rps;
-        desired = λ s p f want. desired_cpu (Some 0) want (online s) (rps s p f);
-        online = λ s l. has (online s) l; affects = must_be_empty; }
+    flow = q.flow;
+    to = q.app;
+    shape = λ s p. if nat_lt p queues then s (flows_word p) else 0;
+    class = λ shape f. class_of (shape % 2 ^ 32) (q.hash f);
+    plain = rps;
+    desired = λ s p f want. desired_cpu (Some 0) want (online s) (rps s p f);
+    online = λ s l. has (online s) l;
+    affects = must_be_empty;
+  }
 
 -- A packet is to go to an online processor if its queue's home is online.
 abbrev pub GoalsAreOnline : Type 0

@@ -10,9 +10,15 @@ use Rattle.hop_delivery.specs.Orders.{ReceiveSettings.mask, Runs.Steering}
 -- that was picked.
 abbrev pub transmit_steering : (ℕ → ℕ) → Steering
 transmit_steering flow = record {
-      flow = flow; to = λ f. 0; shape = λ s p. 0; class = λ shape f. Some f;
-      plain = λ s p f. 0; desired = λ s p f want. unwrap_or want 0;
-      online = λ s l. true; affects = λ s w v l. false; }
+  flow = flow;
+  to = λ f. 0;
+  shape = λ s p. 0;
+  class = λ shape f. Some f;
+  plain = λ s p f. 0;
+  desired = λ s p f want. unwrap_or want 0;
+  online = λ s l. true;
+  affects = λ s w v l. false;
+}
 
 -- The transmit queue that is picked by settings: the words are the processor masks of the transmit
 -- queues, then their receive-queue masks.

@@ -117,7 +117,11 @@ module _ (about : BoardSizes) (own : ℕ → List BoardStep) (lists : BoardLists
       step.2 ∙ (ap (λ d. Some d) is ∙ (λ i. Some (Lane (Given g.0.to l (same i) g.0.place)))) in
       let p = places.stand (puller about l) step.0 g.0.to l id g.0.place does in
       record {
-        to = g.0.to; index = g.0.place - 1; step = step.0; place = g.0.place; does = does;
+        to = g.0.to;
+        index = g.0.place - 1;
+        step = step.0;
+        place = g.0.place;
+        does = does;
         stands = p.stands;
       }
 

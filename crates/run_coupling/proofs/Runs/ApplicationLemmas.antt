@@ -169,7 +169,9 @@ module _ (i : Input) (h : History) (rx : BoardSizes) (rx_own : ℕ → List Boar
     seen-maps =
         let w = maps-upto n in
         record {
-          many = w.many; cpu_maps = w.cpu_maps; queue_maps = w.queue_maps;
+          many = w.many;
+          cpu_maps = w.cpu_maps;
+          queue_maps = w.queue_maps;
           cpus = λ tx less. read-is tx (omega arith) ∙ w.cpus tx less;
           queues = λ tx less. read-is (count + tx) (omega arith) ∙ w.queues tx less;
         }
@@ -233,5 +235,7 @@ module _ (i : Input) (h : History) (rx : BoardSizes) (rx_own : ℕ → List Boar
         journals = coupling.applications.choices;
         counted = turns-counted own t coupling.applications.turns;
         chosen = turn-chosen own t coupling.applications.turns;
-        few = few; by_rule = rule-of; replies = reply-of;
+        few = few;
+        by_rule = rule-of;
+        replies = reply-of;
       }

@@ -20,8 +20,11 @@ shared = record {
   entry = λ place. hint_number (word.Redirection place);
   stand = λ app. hint_number (word.Stand app);
   filter = λ place. hint_number (word.Filter place);
-  packet = λ id. hint_number (word.Queue id); steered = λ id. hint_number (word.Steered id);
-  place = place_word; filter_value = filter_word; place_is_set = λ n e. absurd (omega arith);
+  packet = λ id. hint_number (word.Queue id);
+  steered = λ id. hint_number (word.Steered id);
+  place = place_word;
+  filter_value = filter_word;
+  place_is_set = λ n e. absurd (omega arith);
   filter_is_set = λ f e. absurd (omega arith);
 }
 
@@ -32,8 +35,14 @@ code-is w = refl
 pub are-shared : AreShared shared
 are-shared =
     record {
-      socket = λ place. refl; entry = λ place. refl; stand = λ app. refl; filter = λ place. refl;
-      packet = λ id. refl; steered = λ id. refl; place = λ place. refl; filter_value = λ f. refl;
+      socket = λ place. refl;
+      entry = λ place. refl;
+      stand = λ app. refl;
+      filter = λ place. refl;
+      packet = λ id. refl;
+      steered = λ id. refl;
+      place = λ place. refl;
+      filter_value = λ f. refl;
     }
 
 abbrev value-of : Filter → Option Filter → Filter
@@ -56,7 +65,9 @@ tell-apart packets =
       words = λ v w is-v is-w same.
           (hint_words_apart packets).apart v w is-v is-w
           (sym (code-is v) ∙ (same ∙ code-is w));
-      places = one-place; filters = one-filter; place_loaded = only_coded.place;
+      places = one-place;
+      filters = one-filter;
+      place_loaded = only_coded.place;
       filter_loaded = only_coded.filter;
     }
 

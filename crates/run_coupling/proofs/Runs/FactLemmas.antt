@@ -90,19 +90,28 @@ facts_of about order fit lawful =
     (numbered_reads_are_settings about order fit lawful) in
     let answers = answers_are_places about own lists stand were in
     record {
-      fit = fit; gives = gives_within about order lawful;
-      counted = lists_are_counted about own order; sums = counts_are_sums about order lawful;
-      outs = outs_are_sums about order lawful; stand = stand; accepted = were;
-      dropped = drops_were_put about order lawful; causes = drops_have_causes about order lawful;
+      fit = fit;
+      gives = gives_within about order lawful;
+      counted = lists_are_counted about own order;
+      sums = counts_are_sums about order lawful;
+      outs = outs_are_sums about order lawful;
+      stand = stand;
+      accepted = were;
+      dropped = drops_were_put about order lawful;
+      causes = drops_have_causes about order lawful;
       rise = drops_rise about order lawful;
       served = lanes_are_served_by_one about order lawful;
       turn = lanes_are_in_turn about order lawful;
       places = deliveries_have_places about order lawful;
-      holds = holds_find_fronts about order lawful; heads = heads_rise about order lawful;
+      holds = holds_find_fronts about order lawful;
+      heads = heads_rise about order lawful;
       below = heads_are_below about order lawful;
       visits = visit_numbers_rise about order fit lawful;
-      reads = read; turns_know = by_turn; rules = rules_by_reads about own lists by_turn;
-      order = flows_in_order about order lawful fit; answers = answers;
+      reads = read;
+      turns_know = by_turn;
+      rules = rules_by_reads about own lists by_turn;
+      order = flows_in_order about order lawful fit;
+      answers = answers;
       tables =
           tables_rule about own lists
           (tables_are_entries about own lists folds.table_is_entries answers);

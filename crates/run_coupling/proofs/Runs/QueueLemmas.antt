@@ -143,7 +143,9 @@ module _ (i : Input) (h : History) (about : BoardSizes) (own : ℕ → List Boar
   pub are-turns : AreTurnsOf own t
   are-turns =
       record {
-        once = arrive-once; explained = keeps.turns.explained; by_seat = keeps.turns.by_seat;
+        once = arrive-once;
+        explained = keeps.turns.explained;
+        by_seat = keeps.turns.by_seat;
         arrived = turn-arrived own t keeps.turns;
       }
 
@@ -283,7 +285,9 @@ module _ (i : Input) (h : History) (about : BoardSizes) (own : ℕ → List Boar
   choices-have-turns =
       record {
         explained = λ p. keeps.turns.explained (t.seat p);
-        journals = keeps.choices; none = no-choices; counted = turns-counted own t keeps.turns;
+        journals = keeps.choices;
+        none = no-choices;
+        counted = turns-counted own t keeps.turns;
         chosen = turn-chosen own t keeps.turns;
         known = λ p k u at.
             arrival-known p k u.chosen.id (turn-arrived own t keeps.turns p k u at);
@@ -311,8 +315,11 @@ module _ (i : Input) (h : History) (about : BoardSizes) (own : ℕ → List Boar
   pub meets-premises : MeetsPremises about own (accepted_left lists) t r
   meets-premises =
       record {
-        once = arrive-once; explained = keeps.turns.explained; by_seat = keeps.turns.by_seat;
-        arrived = turn-arrived own t keeps.turns; chosen = turn-chosen own t keeps.turns;
+        once = arrive-once;
+        explained = keeps.turns.explained;
+        by_seat = keeps.turns.by_seat;
+        arrived = turn-arrived own t keeps.turns;
+        chosen = turn-chosen own t keeps.turns;
         given = λ q. all-by-number (GoesRight r) (own q) (goes-right q);
         by_rule = rule-of;
         emptied =

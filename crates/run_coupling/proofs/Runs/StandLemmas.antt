@@ -179,7 +179,12 @@ module _ (about : BoardSizes) (own : ℕ → List BoardStep) (lists : BoardLists
       (delivery o x (suc j)) n.1 in
       let many = v.delivered in
       record {
-        lane = g.from; index = n.0; step = g.step; within = w.1; does = does; is = n.1;
+        lane = g.from;
+        index = n.0;
+        step = g.step;
+        within = w.1;
+        does = does;
+        is = n.1;
         stands_at = v.nth_delivery n.0 (delivery o x (suc j)) n.1;
         early = omega arith;
       }

@@ -20,7 +20,9 @@ busy_calls looked last word =
           ap (λ gs. Opened ∷ filter_map set_or_opening gs)
           (gates-looking (looked ++ last ∷ []) base);
       none = (refl, no-sets-looking (looked ++ last ∷ []) base (refl, tt));
-      newer = Gate Opened ∷ []; between = []; older = looking looked base;
+      newer = Gate Opened ∷ [];
+      between = [];
+      older = looking looked base;
       are = ap (λ ds. Gate Opened ∷ ds) (looking-split looked last [] base);
     }
 

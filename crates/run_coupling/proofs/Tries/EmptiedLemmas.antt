@@ -100,12 +100,18 @@ found_at about looked word l older front back is empty =
     let x : Looked = t.1 in
     let base : List BoardStep = Gate (Shut word) ∷ [] in
     record {
-      since = looking looked []; older = older; word = word;
+      since = looking looked [];
+      older = older;
+      word = word;
       closed =
           ap (λ ds. ds ++ older) (looking-append looked [] base)
           ∙ append_assoc (looking looked []) base older;
-      stays = ap openings (gates-looking looked []); after = looking t.2 []; between = [];
-      first = looking t.0 []; head = x.head; tail = x.tail;
+      stays = ap openings (gates-looking looked []);
+      after = looking t.2 [];
+      between = [];
+      first = looking t.0 [];
+      head = x.head;
+      tail = x.tail;
       loads =
           ap (λ xs. looking xs []) t.3
           ∙ (looking-split t.0 x t.2 []

@@ -52,7 +52,8 @@ map_with count s w (give.XCpus tx cpus) within some a =
     }
 map_with count s w (give.XQueues tx rxqs) within some a =
     record {
-      many = a.many; cpu_maps = a.cpu_maps;
+      many = a.many;
+      cpu_maps = a.cpu_maps;
       queue_maps = length-set s.maps.queues tx rxqs ∙ a.queue_maps;
       cpus = λ y lt.
           if_other (count + tx) y rxqs (w y) (λ e. absurd (omega arith)) ∙ a.cpus y lt;

@@ -177,7 +177,10 @@ module _ (plan : Plan) where
         masks = λ p.
             set-any (λ (m : CpuMask). m.0 < 2 ^ plan.cpus) s.masks q p mask (record { 0 = 0 }) small
             (f.masks p);
-        counts = f.counts; rounded = f.rounded; sock = f.sock; online = f.online;
+        counts = f.counts;
+        rounded = f.rounded;
+        sock = f.sock;
+        online = f.online;
       }
   fit_changed s (give.Flows q count) within f =
       let b = and-both (nat_lt q (length plan.queues)) (nat_lt count (MAX_FLOW_COUNT + 1)) within in
@@ -190,31 +193,45 @@ module _ (plan : Plan) where
         rounded = λ p.
             set-number (λ n. rounded_up n ≡ n) s.counts q p (rounded_up count)
             (rounded-again count (omega arith)) (f.rounded p);
-        sock = f.sock; online = f.online;
+        sock = f.sock;
+        online = f.online;
       }
   fit_changed s (give.Sock size) within f =
       let few = ltb-true size (MAX_SOCKET_SIZE + 1) within in
       record {
-        masks = f.masks; counts = f.counts; rounded = f.rounded;
-        sock = rounded-sock size (omega arith); online = f.online;
+        masks = f.masks;
+        counts = f.counts;
+        rounded = f.rounded;
+        sock = rounded-sock size (omega arith);
+        online = f.online;
       }
   fit_changed s (give.Offline cpu) within f =
       let less = and_le_l s.online.0 (2 ^ 32 - 1 - 2 ^ cpu) in
       let now = f.online in
       record {
-        masks = f.masks; counts = f.counts; rounded = f.rounded; sock = f.sock;
+        masks = f.masks;
+        counts = f.counts;
+        rounded = f.rounded;
+        sock = f.sock;
         online = omega arith;
       }
   fit_changed s (give.Online cpu) within f =
       record {
-        masks = f.masks; counts = f.counts; rounded = f.rounded; sock = f.sock;
+        masks = f.masks;
+        counts = f.counts;
+        rounded = f.rounded;
+        sock = f.sock;
         online =
             or_lt plan.cpus s.online.0 (2 ^ cpu) f.online
             (below-power cpu plan.cpus (ltb-true cpu plan.cpus within));
       }
   fit_changed s c within f =
       record {
-        masks = f.masks; counts = f.counts; rounded = f.rounded; sock = f.sock; online = f.online;
+        masks = f.masks;
+        counts = f.counts;
+        rounded = f.rounded;
+        sock = f.sock;
+        online = f.online;
       }
 
   first-masks : (qs : List QueuePlan) (p : ℕ) → All (QueueIsWithin plan.cpus) qs

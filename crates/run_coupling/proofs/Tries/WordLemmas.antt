@@ -38,7 +38,8 @@ module _ (q : Queues) (s : Settings) (g : ℕ → ℕ) (w : ℕ → ℕ) (a : Ar
   after-mask : (r : ℕ) (mask : CpuMask) → r < Q → After (give.Mask r mask)
   after-mask r mask within =
       record {
-        masks = length-set s.masks r mask ∙ a.masks; counts = a.counts;
+        masks = length-set s.masks r mask ∙ a.masks;
+        counts = a.counts;
         mask = λ p lt.
             dite (ℕ_discrete r p)
             (λ e.
@@ -107,7 +108,8 @@ module _ (q : Queues) (s : Settings) (g : ℕ → ℕ) (w : ℕ → ℕ) (a : Ar
   after-sock : (n : ℕ) → After (give.Sock n)
   after-sock n =
       record {
-        masks = a.masks; counts = a.counts;
+        masks = a.masks;
+        counts = a.counts;
         mask = λ p lt.
             if_other (2 * Q) p (rounded_up n) (w p) (λ e. absurd (omega arith)) ∙ a.mask p lt;
         flows = λ p lt.
@@ -125,7 +127,8 @@ module _ (q : Queues) (s : Settings) (g : ℕ → ℕ) (w : ℕ → ℕ) (a : Ar
       (with_setting w (2 * Q + 1) mask.0)
   after-online mask =
       record {
-        masks = a.masks; counts = a.counts;
+        masks = a.masks;
+        counts = a.counts;
         mask = λ p lt.
             if_other (2 * Q + 1) p mask.0 (w p) (λ e. absurd (omega arith)) ∙ a.mask p lt;
         flows = λ p lt.
@@ -142,7 +145,8 @@ same_words : (q : Queues) (s z : Settings) (g : ℕ → ℕ) (w : ℕ → ℕ) �
     → AreReceiveWords q z g w
 same_words q s z g w masks counts sock online a =
     record {
-      masks = ap length masks ∙ a.masks; counts = ap length counts ∙ a.counts;
+      masks = ap length masks ∙ a.masks;
+      counts = ap length counts ∙ a.counts;
       mask = λ p lt.
           a.mask p lt
           ∙ sym (ap (λ (ms : List CpuMask).

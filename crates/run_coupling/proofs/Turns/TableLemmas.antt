@@ -122,9 +122,12 @@ drops_follow about own lists causes rise counted i h limits hashes =
           subst (AllExplained (packet_hash (setup_in i)))
           (λ j. record {
             accepted = (lane_at (sym limits.lanes j) c).accepted;
-            offers = []; drops = (lane_at (sym limits.lanes j) c).drops;
+            offers = [];
+            drops = (lane_at (sym limits.lanes j) c).drops;
             pulled = (lane_at (sym limits.lanes j) c).pulled;
-            limit = limits.limit j; room = limits.room j; start = limits.start j;
+            limit = limits.limit j;
+            room = limits.room j;
+            start = limits.start j;
             limited = has (limits.limited j) c;
           })
           (causes (packet_hash (setup_in i)) hashes c);
@@ -134,7 +137,8 @@ drops_follow about own lists causes rise counted i h limits hashes =
           (let n = counted.lanes in
           let a = rise l (omega arith) in
           record {
-            accepted = a.accepted_within; pulled = a.pulled_within;
+            accepted = a.accepted_within;
+            pulled = a.pulled_within;
             rise = λ k d e at next.
                 next-two (lane_at lists.lanes l).drops k d e at next a.accepted a.pulled;
           })));

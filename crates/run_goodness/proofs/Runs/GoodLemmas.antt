@@ -119,7 +119,9 @@ module _ (i : Input) (h : History) (run : IsRun i h) where
     arrived =
         receives.have-arrived i h run.rx rx_own run.rx_lists (runs.rx-facts i h run) run.tries
         run.queues run.queues_seen run.input run.commands run.received;
-    steered = steered; delivered = delivered; replies = replies;
+    steered = steered;
+    delivered = delivered;
+    replies = replies;
     shipped =
         transmits.are-shipped i h run.rx rx_own run.rx_lists (runs.rx-facts i h run)
         run.received.board.inboxes (runs.inboxes-stand i h run) run.tx tx_own run.tx_lists
@@ -153,7 +155,8 @@ module _ (i : Input) (h : History) (run : IsRun i h) where
       queue = hints.queues-of-replies i h run a;
       stood = hints.stood-of-replies i h run a;
     });
-    prefixes = by-rule.prefixes; each = by-rule.each;
+    prefixes = by-rule.prefixes;
+    each = by-rule.each;
     places =
         transmits.one-place i h run.rx rx_own run.rx_lists (runs.rx-facts i h run)
         run.received.board.inboxes (runs.inboxes-stand i h run) run.tx tx_own run.tx_lists
@@ -172,10 +175,13 @@ module _ (i : Input) (h : History) (run : IsRun i h) where
         receives.choices-by-rule i h run.rx rx_own run.rx_lists (runs.rx-facts i h run) run.tries
         run.queues run.queues_seen run.input run.commands run.received;
     wants = hints.wants-are-written i h run;
-    heads = runs.heads i h run; drops = runs.drops i h run;
-    steered = is-steered; swept = runs.swept i h run;
+    heads = runs.heads i h run;
+    drops = runs.drops i h run;
+    steered = is-steered;
+    swept = runs.swept i h run;
     writes = hints.writes-are-right i h run;
-    commands = runs.commands i h run; replies = replies-by-rule;
+    commands = runs.commands i h run;
+    replies = replies-by-rule;
   }
 
 pub runs_are_good : RunsAreGood

@@ -144,19 +144,23 @@ module _ (i : Input) (h : History) (run : IsRun i h) where
       (turns_put_once rx_own run.queues (runs.rx-turns i h run)) (run.queues.seat w.producer) put.0
       u.chosen.choice.lane u.chosen.id u.hash u.answer put.1) in (
         record {
-          queue = w.producer; choice = u.chosen;
+          queue = w.producer;
+          choice = u.chosen;
           chosen = (
             w.index,
             ap (λ cs. slice_get cs w.index) (run.received.queues.choices w.producer)
                 ∙ turn-chosen rx_own run.queues run.received.queues.turns w.producer w.index u w.is,
           );
-          moved = w.moved; home = w.home;
+          moved = w.moved;
+          home = w.home;
           accepted =
               ap (λ (ls : List LaneList). is_in u.chosen.id
               (lane_at ls u.chosen.choice.lane).accepted)
               run.received.board.lanes
               ∙ ap is_some at.1;
-          place = place; there = w.there; here = here;
+          place = place;
+          there = w.there;
+          here = here;
         },
         refl,
       )
@@ -165,13 +169,15 @@ module _ (i : Input) (h : History) (run : IsRun i h) where
       → SeenBy i h hash a
   seen-by None a is = is
   seen-by (Some hash) a (inl (q, is, none, inl said)) = inl (
-    q, is,
+    q,
+    is,
     run.meant.entries (table_place hash) q (below-modulus hash)
         (said-stored (run.codes.entry (table_place hash)) (length i.plan.queues) q said),
   )
   seen-by (Some hash) a (inl (q, is, none, inr (unset, plan))) = inl (q, is, inl plan)
   seen-by (Some hash) a (inr (place, f, queue_few, cpu_few, is, here, loaded)) = inr (
-    f.queue, is,
+    f.queue,
+    is,
     (filter-of hash place f.queue
         (run.meant.filters place f (class-below i.plan.filters (Some hash) place here) queue_few
         cpu_few
@@ -219,9 +225,11 @@ module _ (i : Input) (h : History) (run : IsRun i h) where
           × WasLoaded run.hint_seats (run.codes.socket place) (run.codes.place want)
       by-entry None at by = none-some want (sym by.1 ∙ is)
       by-entry (Some entry) at (n, value, there, loads, says) = (
-        entry, ap (λ m. class_of m hash) (sym same) ∙ at,
+        entry,
+        ap (λ m. class_of m hash) (sym same) ∙ at,
         record {
-          seat = seat; among = among;
+          seat = seat;
+          among = among;
           loads = subst (λ v. Contains seat.steps (Load (run.codes.socket entry) v))
               (subst (Says run.codes i.plan.cpus value) is says).1
               (nth-among seat.steps n (Load (run.codes.socket entry) value) loads);
@@ -254,7 +262,8 @@ module _ (i : Input) (h : History) (run : IsRun i h) where
       ap (λ (s : Settings). s.sock)
       (settings-after (word_of (nth_step (turns_of run.queues q) k) / 2 ^ 32) ∙ ap after number)
       ∙ sym sock in (
-        w.0, ap (λ n. class_of n (packet_hash (setup_in i) u.chosen.id)) same ∙ w.1,
+        w.0,
+        ap (λ n. class_of n (packet_hash (setup_in i) u.chosen.id)) same ∙ w.1,
         run.meant.sockets w.0 want
             (let place = class-below (run.queues_seen q k (socket_word (receive_queues i)))
             (packet_hash (setup_in i) u.chosen.id) w.0 w.1 in omega (arith, place, few))
@@ -337,16 +346,24 @@ module _ (i : Input) (h : History) (run : IsRun i h) where
   are-writes a (x ∷ xs) ws less (inr (inl (hash, w, more, size, has, parts, was, at, stands, rest)))
       =
       inr (inl (
-        hash, w, more, has, parts,
+        hash,
+        w,
+        more,
+        has,
+        parts,
         record {
-          size = size; is_size = size-read size was; at = at;
+          size = size;
+          is_size = size-read size was;
+          at = at;
           stood = stood-at a w.cpu less stands;
         },
         are-writes a xs more less rest,
       ))
   are-writes a (x ∷ xs) ws less (inr (inr (hash, size, has, was, zero_is, rest))) =
       inr (inr (
-        hash, has, subst (IsSize i h) (zero_is (size-few size was)) (size-read size was),
+        hash,
+        has,
+        subst (IsSize i h) (zero_is (size-few size was)) (size-read size was),
         are-writes a xs ws less rest,
       ))
 

@@ -101,7 +101,8 @@ module _ (i : Input) (h : History) (about : BoardSizes) (own : ℕ → List Boar
     of_the_capture = (let n = counted in omega arith);
     taken = λ q. (let n = choice-count q in omega arith);
     chosen = λ q. (
-      [], append-none (map (λ (c : Chosen). c.id) (list_at h.choices q)) ∙ all-chosen q,
+      [],
+      append-none (map (λ (c : Chosen). c.id) (list_at h.choices q)) ∙ all-chosen q,
     );
     chosen_taken = λ q.
         (let n = coupling.queues.taken q in

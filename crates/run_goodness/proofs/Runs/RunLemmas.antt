@@ -90,7 +90,10 @@ module _ (i : Input) (h : History) (run : IsRun i h) where
 
   pub has-arrived-all : HasArrived i h
   has-arrived-all = record {
-    all = run.input.arrived; total = run.input.total; cut = run.input.cut; start = run.input.start;
+    all = run.input.arrived;
+    total = run.input.total;
+    cut = run.input.cut;
+    start = run.input.start;
     queues = run.received.queues.taken_lists;
     cpus =
         ap length run.received.board.lanes
@@ -325,14 +328,16 @@ module _ (i : Input) (h : History) (run : IsRun i h) where
   commands =
       commands_follow i h run.tries run.rx run.tx rx_own tx_own run.rx_lists run.tx_lists
       (record {
-        start = run.received.board.start; lanes_are = run.received.board.lanes;
+        start = run.received.board.start;
+        lanes_are = run.received.board.lanes;
         own_list = run.received.tries_are.own_list;
         busy =
             busy_lanes run.rx rx_own run.rx_lists rx-facts.fit rx-facts.heads rx-facts.below
             rx-facts.turn;
       })
       (record {
-        start = run.sent.board.start; lanes_are = run.sent.board.lanes;
+        start = run.sent.board.start;
+        lanes_are = run.sent.board.lanes;
         own_list = run.sent.tries_are.own_list;
         busy =
             busy_lanes run.tx tx_own run.tx_lists tx-facts.fit tx-facts.heads tx-facts.below

@@ -139,8 +139,10 @@ module _ (i : Input) (h : History) (rx : BoardSizes) (rx_own : ℕ → List Boar
 
   pub premises : MeetsPremises about own (accepted_left lists) t r
   premises = record {
-    once = turns.once; explained = turns.explained;
-    by_seat = turns.by_seat; arrived = turns.arrived;
+    once = turns.once;
+    explained = turns.explained;
+    by_seat = turns.by_seat;
+    arrived = turns.arrived;
     chosen = turn-chosen own t coupling.applications.turns;
     given = λ q. all-by-number (GoesRight r) (own q) (goes-right q);
     by_rule = replies.by_rule;
@@ -258,7 +260,8 @@ module _ (i : Input) (h : History) (rx : BoardSizes) (rx_own : ℕ → List Boar
         stand.accepted-choice about own lists facts t coupling.applications.turns turns once
         h.tx_choices coupling.applications.choices l x
         (ap (λ ls. is_in x (lane_at ls l).accepted) (sym coupling.board.lanes) ∙ is);
-    once = lanes-apart; no_drops = no-drops;
+    once = lanes-apart;
+    no_drops = no-drops;
     port = λ x is.
         subst (λ ls. (l : ℕ) × (is_in x (lane_at ls l).accepted ≡ true)) (sym
         coupling.board.lanes)
@@ -270,7 +273,8 @@ module _ (i : Input) (h : History) (rx : BoardSizes) (rx_own : ℕ → List Boar
 
   pub one-place : AreInOneTxPlace h
   one-place = record {
-    lanes = lanes-apart; once = port-once;
+    lanes = lanes-apart;
+    once = port-once;
     delivered = λ x is.
         subst (λ ls.
         (l : ℕ) × (is_among (lane_at ls l).delivered x (lane_at ls l).accepted ≡ true))

@@ -117,12 +117,19 @@ try_at (t ∷ ts) k c at = elim (slice-end (given_by ts) t.given k c at) [
   | inl old ↦
       let b = try_at ts k c old in
       record {
-        more = t ∷ b.more; try = b.try; older = b.older; are = ap (λ z. t ∷ z) b.are;
-        count = b.count; given = b.given;
+        more = t ∷ b.more;
+        try = b.try;
+        older = b.older;
+        are = ap (λ z. t ∷ z) b.are;
+        count = b.count;
+        given = b.given;
       }
   | inr new ↦
       record {
-        more = []; try = t; older = ts; are = refl;
+        more = [];
+        try = t;
+        older = ts;
+        are = refl;
         count = sym (new.0 ∙ length-given ts);
         given = new.1;
       }
@@ -198,12 +205,18 @@ module _ (i : Input) (h : History) (tries : List Try) (rx tx : BoardSizes)
   answer_is more t older are None (inr (inr (gate, inl (n, is, v)))) =
       inr (h.tx_lanes, busy.Inside n, gate, is, (v.some, v.few))
   answer_is more t older are None (inr (inl (gate, inr (lane, head, tail, is, finds)))) = inr (
-    h.lanes, busy.NotEmpty lane head tail, gate, is,
+    h.lanes,
+    busy.NotEmpty lane head tail,
+    gate,
+    is,
     busy_at i h h.lanes at_receive tries rx rx_own rx_lists a more t older are lane head tail
         finds,
   )
   answer_is more t older are None (inr (inr (gate, inr (lane, head, tail, is, finds)))) = inr (
-    h.tx_lanes, busy.NotEmpty lane head tail, gate, is,
+    h.tx_lanes,
+    busy.NotEmpty lane head tail,
+    gate,
+    is,
     busy_at i h h.tx_lanes at_transmit tries tx tx_own tx_lists b more t older are lane
         head tail finds,
   )

@@ -42,7 +42,12 @@ use Rattle.run_coupling.proofs.Tries.OpeningLemmas as opening_lemmas
 module _ (class : ℕ) (want : Option ℕ) (desired tail current : ℕ) where
   abbrev choice : Option ℕ → ℕ → Why → Choice
   choice head lane why = record {
-    class = Some class; want = want; head = head; tail = Some tail; lane = lane; why = why;
+    class = Some class;
+    want = want;
+    head = head;
+    tail = Some tail;
+    lane = lane;
+    why = why;
   }
 
   abbrev by_bools : Bool → Bool → Bool → ℕ → Choice

@@ -29,7 +29,12 @@ use Rattle.run_goodness.specs.Laws.{HeadsFollow}
 
 abbrev a_choice : ℕ → Option ℕ → ℕ → Option ℕ → ℕ → Why → Choice
 a_choice class want tail head lane why = record {
-  class = Some class; want = want; head = head; tail = Some tail; lane = lane; why = why;
+  class = Some class;
+  want = want;
+  head = head;
+  tail = Some tail;
+  lane = lane;
+  why = why;
 }
 
 record KeepsHead (class : Option ℕ) (entries : ℕ → Entry) (head h : ℕ) (c : Choice) : Type 0 where
@@ -70,7 +75,11 @@ kept-head (Some c) want desired entries head online h is = by_lane (entries c).l
         let b = by_bools l (entries c).tail (l == desired) (not (online l))
         (has_reached head (entries c).tail 0) is in
         record {
-          of_class = c; lane = l; is_class = refl; is_lane = same; is_head = b.0;
+          of_class = c;
+          lane = l;
+          is_class = refl;
+          is_lane = same;
+          is_head = b.0;
           same_class =
               ap (λ (o : Option ℕ).
               (by_entry c want desired (entries c).tail (λ _. head) online o).class) same ∙ b.1;
@@ -181,9 +190,12 @@ module _ (about : BoardSizes) (own : ℕ → List BoardStep) (lists : BoardLists
       let e = (places.visits (at k) (step_by p u.0) turn_is).early j.0 (Weighed kept.lane w.0)
       (j.1 ∙ ap (λ d. Some d) has.2) in
       record {
-        word = w.0; step = e.0;
+        word = w.0;
+        step = e.0;
         does = e.3 ∙ ap (λ l. Some (Weighed l w.0)) same;
-        shows = w.2 ∙ kept.is_head; after = e.1; before = e.2;
+        shows = w.2 ∙ kept.is_head;
+        after = e.1;
+        before = e.2;
       }
 
   pub counted : (k head lane : ℕ) (x : Load k head lane)
@@ -200,7 +212,8 @@ module _ (about : BoardSizes) (own : ℕ → List BoardStep) (lists : BoardLists
       let big = fit.room in (
         ap (λ n. distance n about.start) (sym x.shows)
             ∙ shown about.start x.word fit.start a (omega arith),
-        b, a,
+        b,
+        a,
       )
 
   pub heads_follow : HeadsRise about.start lists.lanes cs

@@ -102,7 +102,10 @@ entries-rise ds (t ∷ ts) (newer, late, older, is, no_puts, quiet_late, quiet, 
       | inr new_v ↦ elim (newest t ts p j u at_u) [
         | inl old_u ↦
             let b = entry-at older ts rest p j u old_u in (
-              b.0, length older, nth-inside older b.0 (entry u) b.1, lift b.0 (entry u) b.1,
+              b.0,
+              length older,
+              nth-inside older b.0 (entry u) b.1,
+              lift b.0 (entry u) b.1,
               ap (λ z. nth_step z (length older)) whole
                   ∙ (nth-old c.0 (entry t.step ∷ older) (length older) (omega arith)
                   ∙ (nth-last (entry t.step) older ∙ ap (λ z. Some (entry z)) new_v.0)),

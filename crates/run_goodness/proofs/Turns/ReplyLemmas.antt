@@ -38,7 +38,12 @@ everyone-has c lt = let bit = bit_at_ones 32 c lt in rw (lt-ltb c 32 lt, bit) re
 
 abbrev a_choice : ℕ → Option ℕ → ℕ → Option ℕ → ℕ → Why → Choice
 a_choice class want tail head lane why = record {
-  class = Some class; want = want; head = head; tail = Some tail; lane = lane; why = why;
+  class = Some class;
+  want = want;
+  head = head;
+  tail = Some tail;
+  lane = lane;
+  why = why;
 }
 
 by_entry-online : (class : ℕ) (want : Option ℕ) (desired tail : ℕ) (head : ℕ → ℕ)
@@ -180,7 +185,9 @@ module _ (i : Input) (h : History) (about : BoardSizes) (own : ℕ → List Boar
       sym x ∙ ap (λ cs. chosen_at cs k) (sym same) in
       let r = keeps.replies a k u.0 u.1 in
       let n : number a k ≡ u.0.word / 2 ^ 32 = ap (λ o. word_of o / 2 ^ 32) u.1 in (
-        r.0, r.1, sym (ap (λ (c : Chosen). c.id) chosen) ∙ r.2,
+        r.0,
+        r.1,
+        sym (ap (λ (c : Chosen). c.id) chosen) ∙ r.2,
         subst (λ (y : List Chosen × (Chosen × Settings)). Says k y.0 y.1.0 y.1.1 r.0)
             (λ j. (
               sym same j,

@@ -1,4 +1,4 @@
-use Rattle.run_example.proofs.MovingHints as moving
+use Rattle.run_example.proofs.MovingLemmas as moving
 use Rattle.run_example.proofs.laws.moving_run_exists.Goals as goal
 
 pub returns : goal.returns
