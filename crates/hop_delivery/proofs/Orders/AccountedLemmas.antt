@@ -351,7 +351,8 @@ module _ (about : BoardSizes) (order : List (StepBy BoardStep)) (t : Execution) 
       let c = chosen_is p i u.0 u.1 in by_paths u.0 u.1 b (sym s) since (sym c) where
         by_paths : (u : Turn) → nth_step (turns_of t p) i ≡ Some u
             → (b : executions.IsByRule about own acc t r p i u)
-            → executions.settings_at about own acc t r p i ≡ settings about (past (entered_at p i) order)
+            → executions.settings_at about own acc t r p i
+            ≡ settings about (past (entered_at p i) order)
             → since_resize (executions.shape_at about own acc t r p) i ≡ since_resize
             (λ j. r.shape (settings about (past (entered_at p j) order)) p) i
             → u.chosen ≡ chosen account p i → IsRuled about order account r p i
